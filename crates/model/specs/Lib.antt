@@ -1,0 +1,16 @@
+pub mod Limits
+pub mod Refusals
+pub mod Lists
+pub mod Bytes
+pub mod Plan
+pub mod Slot
+pub mod Schedule
+pub mod Masks
+pub mod Graph
+pub mod Walk
+pub mod Share
+pub mod Certificate
+pub mod Check
+pub mod Solve
+pub mod Trace
+pub mod Text

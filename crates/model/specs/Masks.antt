@@ -1,0 +1,35 @@
+-- Masks of eight bits, and the order of the constant table.
+use Prim.Native.Nat.{ℕ, zero, suc, _+_, _-_, _^_}
+use mathlib.Core.Bool.{Bool, true, false, _&&_}
+use mathlib.Core.List.{List, [], _∷_}
+use lib.Bits.{bitAnd}
+use lib.Dec.{eqb}
+use lib.ListN.{length}
+use Rattle.model.specs.Limits.{maxWindow}
+use Rattle.model.specs.Lists.{keep, flatMap, upFrom, ones}
+use Rattle.model.specs.Plan.{Task}
+
+-- "All 256 masks"
+abbrev pub maskCount : ℕ
+maskCount = 2 ^ maxWindow
+
+-- "grouped by their count of ones, upward in each group": the group of c ones
+unfoldable pub group : ℕ → List ℕ
+group c = keep (λ m. eqb (ones maxWindow m) c) (upFrom 0 maskCount)
+
+-- the groups of 0 to c − 1 ones, one after another
+unfoldable pub groupsBelow : ℕ → List ℕ
+groupsBelow c = flatMap group (upFrom 0 c)
+
+unfoldable pub maskTable : List ℕ
+maskTable = groupsBelow (suc maxWindow)
+
+-- where the group of c ones starts in the table
+unfoldable pub groupStart : ℕ → ℕ
+groupStart c = length (groupsBelow c)
+
+-- "either 0, or, if the label releases it, C bits below bit D, clear of the pattern and of the other masks", upward
+unfoldable pub masksOf : Task → Bool → ℕ → List ℕ
+masksOf t false taken = 0 ∷ []
+masksOf t true taken =
+    0 ∷ keep (λ m. eqb (ones maxWindow m) (t .work) && eqb (bitAnd m taken) 0) (upFrom 1 (2 ^ (t .window) - 1))

@@ -1,0 +1,150 @@
+-- A plan: its tasks, its policy, and the automaton of admitted labels; and the reading of plan bytes.
+use mathlib.Core.Path.{_≡_}
+use Prim.Native.Nat.{ℕ, zero, suc, _+_, _^_}
+use mathlib.Core.Bool.{Bool, true, false, cond, not, _&&_, _||_}
+use mathlib.Core.List.{List, [], _∷_, _++_}
+use mathlib.Core.Option.{Option, none, some}
+use lib.Dec.{leb, ltb, eqb}
+use lib.ListN.{length, getD, drop}
+use Rattle.model.specs.Limits.{maxTasks, maxWindow, maxValue, maxStates}
+use Rattle.model.specs.Refusals.{bytesEnd, unknownCommand, outOfPlace, outOfRange}
+
+pub record Task : Type 0 where
+  pub work : ℕ  -- C, slots of work
+  pub window : ℕ  -- D
+  pub value : ℕ  -- V, the gain
+
+-- "in state S label L is admitted and leads to T"
+pub record Arc : Type 0 where
+  pub from : ℕ
+  pub label : ℕ
+  pub to : ℕ
+
+pub record Plan : Type 0 where
+  pub tasks : List Task
+  pub policy : ℕ
+  pub states : ℕ
+  pub arcs : List Arc
+
+abbrev pub isArc : ℕ → ℕ → Arc → Bool
+isArc s l a = eqb (a .from) s && eqb (a .label) l
+
+-- the state that a label leads to; "a pair not given is not admitted"
+abbrev pub nextIn : List Arc → ℕ → ℕ → Option ℕ
+nextIn [] s l = none
+nextIn (a ∷ as′) s l = let later = nextIn as′ s l in cond (isArc s l a) (some (a .to)) later
+
+-- ---- the bytes
+
+pub data PlanAnswer : Type 0 where
+  faulty : ℕ → PlanAnswer  -- refused, with the number
+  sound : Plan → PlanAnswer
+
+-- what the commands read so far say; 0 stands for a policy or a count of states not given yet
+pub record Reading : Type 0 where
+  pub tasks : List Task
+  pub policy : ℕ
+  pub states : ℕ
+  pub arcs : List Arc
+  pub ended : Bool
+
+abbrev pub nothingRead : Reading
+nothingRead = record { tasks = []; policy = 0; states = 0; arcs = []; ended = false }
+
+abbrev pub between : ℕ → ℕ → ℕ → Bool
+between low n high = leb low n && leb n high
+
+abbrev pub isZero : ℕ → Bool
+isZero n = eqb n 0
+
+-- "Commands are one byte": task 01, policy 02, states 03, arc 04, end 05
+abbrev pub unknown : ℕ → Bool
+unknown c = not (between 1 c 5)
+
+-- "operands have fixed widths": the bytes of a command with its operands
+unfoldable pub width : ℕ → ℕ
+width c = cond (eqb c 1 || eqb c 4) 4 (cond (eqb c 5) 1 2)
+
+-- whether a command may follow those read: tasks first, "one to four times", then policy, states, arcs and end
+unfoldable pub mayFollow : Reading → ℕ → Bool
+mayFollow r c =
+    cond (eqb c 1) (isZero (r .policy) && ltb (length (r .tasks)) maxTasks)
+    (cond (eqb c 2) (isZero (r .policy) && not (isZero (length (r .tasks))))
+    (cond (eqb c 3) (not (isZero (r .policy)) && isZero (r .states))
+    (not (isZero (r .states)))))
+
+-- "1 ≤ C ≤ D ≤ 8, V 1 to 255"; "policy (1 to 4)"; "M states (1 to 16)"; "S, T below M, L below 2 to the number of tasks"
+unfoldable pub inRange : Reading → ℕ → ℕ → ℕ → ℕ → Bool
+inRange r c x y z =
+    cond (eqb c 1) (leb 1 x && leb x y && leb y maxWindow && between 1 z maxValue)
+    (cond (eqb c 2) (between 1 x 4)
+    (cond (eqb c 3) (between 1 x maxStates)
+    (cond (eqb c 4) (ltb x (r .states) && ltb y (2 ^ length (r .tasks)) && ltb z (r .states))
+    true)))
+
+-- the order of pairs (S, L)
+abbrev pub pairBelow : Arc → ℕ → ℕ → Bool
+pairBelow a s l = ltb (a .from) s || (eqb (a .from) s && ltb (a .label) l)
+
+-- "pairs (S, L) strictly rising": the pair is above the last arc's
+abbrev pub rising : List Arc → ℕ → ℕ → Bool
+rising [] s l = true
+rising (a ∷ []) s l = pairBelow a s l
+rising (a ∷ b ∷ as′) s l = rising (b ∷ as′) s l
+
+abbrev pub pairRises : Reading → ℕ → ℕ → ℕ → Bool
+pairRises r c s l = cond (eqb c 4) (rising (r .arcs) s l) true
+
+-- The fault of the command at the head of the bytes, 0 for none: "3 (a byte after `05`), 2, 3 (may not follow, a fifth task),
+-- 1, 4, 3 (pairs) are tried in turn".
+unfoldable pub fault : Reading → List ℕ → ℕ
+fault r bs =
+    let c = getD bs 0 0 in
+    let x = getD bs 1 0 in
+    let y = getD bs 2 0 in
+    let z = getD bs 3 0 in
+    cond (r .ended) outOfPlace
+    (cond (unknown c) unknownCommand
+    (cond (not (mayFollow r c)) outOfPlace
+    (cond (ltb (length bs) (width c)) bytesEnd
+    (cond (not (inRange r c x y z)) outOfRange
+    (cond (not (pairRises r c x y)) outOfPlace
+    0)))))
+
+-- what is read once the command c with operands x, y, z is
+unfoldable pub after : Reading → ℕ → ℕ → ℕ → ℕ → Reading
+after r c x y z = record {
+  tasks = cond (eqb c 1) (r .tasks ++ (record { work = x; window = y; value = z } ∷ [])) (r .tasks);
+  policy = cond (eqb c 2) x (r .policy);
+  states = cond (eqb c 3) x (r .states);
+  arcs = cond (eqb c 4) (r .arcs ++ (record { from = x; label = y; to = z } ∷ [])) (r .arcs);
+  ended = eqb c 5;
+}
+
+abbrev pub refusedOr : ℕ → PlanAnswer → PlanAnswer
+refusedOr zero answer = answer
+refusedOr (suc n) answer = faulty (suc n)
+
+-- "1, bytes end .. where one is due"
+abbrev pub atEnd : Reading → PlanAnswer
+atEnd r = cond (r .ended) (sound (record { tasks = r .tasks; policy = r .policy; states = r .states; arcs = r .arcs })) (faulty bytesEnd)
+
+-- One command a turn, up to "the plan's first bad command". Each takes a byte at least, so one turn more than there are bytes is enough.
+abbrev pub readCommands : ℕ → List ℕ → Reading → PlanAnswer
+readCommands zero bs r = faulty bytesEnd
+readCommands (suc n) [] r = atEnd r
+readCommands (suc n) (c ∷ bs) r =
+    let rest = readCommands n (drop (width c) (c ∷ bs)) (after r c (getD bs 0 0) (getD bs 1 0) (getD bs 2 0)) in
+    refusedOr (fault r (c ∷ bs)) rest
+
+-- what is read from here on
+unfoldable pub readFrom : List ℕ → Reading → PlanAnswer
+readFrom bs r = readCommands (suc (length bs)) bs r
+
+unfoldable pub readPlan : List ℕ → PlanAnswer
+readPlan bs = readFrom bs nothingRead
+
+-- "A plan is sound when it has none of the faults 1 to 4": some bytes are read as it.
+pub record IsSound (P : Plan) : Type 0 where
+  pub bytes : List ℕ
+  pub read : readPlan bytes ≡ sound P

@@ -1,0 +1,107 @@
+-- A slot of a policy.
+use Prim.Native.Nat.{ℕ, zero, suc, _+_, _-_, _/_, _%_}
+use mathlib.Core.Bool.{Bool, true, false, cond, _&&_, _||_}
+use mathlib.Core.List.{List, [], _∷_, _++_, map, foldl}
+use mathlib.Core.Option.{Option, none, some}
+use lib.Dec.{leb, ltb, eqb}
+use lib.ListN.{getD}
+use Rattle.model.specs.Limits.{maxWindow}
+use Rattle.model.specs.Lists.{consIf, keep}
+use Rattle.model.specs.Plan.{Task, Plan}
+
+-- a job of the policy: its task (numbered from 1), work remaining and slots left
+pub record Job : Type 0 where
+  pub task : ℕ
+  pub work : ℕ
+  pub left : ℕ
+
+abbrev pub noTask : Task
+noTask = record { work = 0; window = 0; value = 0 }
+
+-- "tasks numbered from 1"
+abbrev pub taskOf : List Task → ℕ → Task
+taskOf ts i = getD ts (i - 1) noTask
+
+-- 1. "The new jobs join with C slots of work remaining and D slots left." The list is of the tasks from number i on, with their bits of the label.
+abbrev pub newJobs : List Task → ℕ → ℕ → List Job
+newJobs [] l i = []
+newJobs (t ∷ ts) l i = consIf (eqb (l % 2) 1) (record { task = i; work = t .work; left = t .window }) (newJobs ts (l / 2) (suc i))
+
+-- 2. "Each job with more work remaining than slots left is dropped."
+abbrev pub canFinish : Job → Bool
+canFinish j = leb (j .work) (j .left)
+
+-- the policies' numbers
+abbrev pub edf : ℕ
+edf = 1
+
+abbrev pub srt : ℕ
+srt = 2
+
+abbrev pub fifo : ℕ
+fifo = 3
+
+-- the release slot, counted from maxWindow slots ago: of D slots, D − left have passed
+abbrev pub releaseSlot : List Task → Job → ℕ
+releaseSlot ts j = maxWindow - (taskOf ts (j .task) .window - j .left)
+
+-- "EDF (slots left, task); SRT (work remaining, task, slots left); FIFO (release slot, task); SP (task, slots left)"
+unfoldable pub key : List Task → ℕ → Job → List ℕ
+key ts policy j =
+    cond (eqb policy edf) (j .left ∷ j .task ∷ [])
+    (cond (eqb policy srt) (j .work ∷ j .task ∷ j .left ∷ [])
+    (cond (eqb policy fifo) (releaseSlot ts j ∷ j .task ∷ [])
+    (j .task ∷ j .left ∷ [])))
+
+-- "smallest first": the order of keys, part by part
+abbrev pub keyBelow : List ℕ → List ℕ → Bool
+keyBelow [] ys = false
+keyBelow (x ∷ xs) [] = false
+keyBelow (x ∷ xs) (y ∷ ys) = ltb x y || (eqb x y && keyBelow xs ys)
+
+-- the first by the key, of the first so far and the next
+abbrev pub sooner : (Job → List ℕ) → Option Job → Job → Option Job
+sooner k none j = some j
+sooner k (some m) j = some (cond (keyBelow (k j) (k m)) j m)
+
+-- "the first by the policy's key", if any job is left
+unfoldable pub first : (Job → List ℕ) → List Job → Option Job
+first k js = foldl (sooner k) none js
+
+-- the same job: a task's jobs are released in different slots, so its slots left tell them apart
+abbrev pub isJob : Job → Job → Bool
+isJob j k = eqb (j .task) (k .task) && eqb (j .left) (k .left)
+
+-- 3. the first "runs one slot. Work falls by 1."
+abbrev pub worked : Job → Job → Job
+worked chosen j = record { task = j .task; work = cond (isJob chosen j) (j .work - 1) (j .work); left = j .left }
+
+-- 4. "Slots left falls by 1 for every other job, and for the one that ran if it isn't done; at 0 the job goes."
+abbrev pub tick : Job → Job
+tick j = record { task = j .task; work = j .work; left = j .left - 1 }
+
+abbrev pub stays : Job → Bool
+stays j = ltb 0 (j .work) && ltb 0 (j .left)
+
+-- what a slot leaves: the jobs, the task that ran (0: none) and the slot's gain
+pub record Done : Type 0 where
+  pub jobs : List Job
+  pub ran : ℕ
+  pub gain : ℕ
+
+-- "At 0 the job is done and V is gained in this slot."
+abbrev pub runFirst : List Task → List Job → Option Job → Done
+runFirst ts js none = record { jobs = keep stays (map tick js); ran = 0; gain = 0 }
+runFirst ts js (some chosen) = record {
+  jobs = keep stays (map tick (map (worked chosen) js));
+  ran = chosen .task;
+  gain = cond (eqb (chosen .work) 1) (taskOf ts (chosen .task) .value) 0;
+}
+
+-- the jobs that steps 1 and 2 leave
+unfoldable pub ready : Plan → List Job → ℕ → List Job
+ready P js l = keep canFinish (js ++ newJobs (P .tasks) l 1)
+
+-- one slot with a label, from the jobs that the slot before left
+unfoldable pub slot : Plan → List Job → ℕ → Done
+slot P js l = runFirst (P .tasks) (ready P js l) (first (key (P .tasks) (P .policy)) (ready P js l))

@@ -1,0 +1,56 @@
+-- What the programs write to standard output.
+use Prim.Native.Nat.{ℕ, zero, suc, _+_, _/_, _%_}
+use mathlib.Core.Bool.{Bool, cond}
+use mathlib.Core.List.{List, [], _∷_, _++_}
+use mathlib.Core.Option.{Option, none, some}
+use lib.Dec.{ltb}
+use Rattle.model.specs.Slot.{Done}
+use Rattle.model.specs.Check.{CheckAnswer, refused, share, thousandths}
+use Rattle.model.specs.Trace.{TraceAnswer, traced}
+
+-- "Numbers are decimal." Each turn takes a digit, so as many turns as the number are enough.
+abbrev pub digitsIn : ℕ → ℕ → List ℕ
+digitsIn zero n = (n + 48) ∷ []
+digitsIn (suc k) n =
+    let more = digitsIn k (n / 10) ++ ((n % 10 + 48) ∷ []) in
+    cond (ltb n 10) ((n + 48) ∷ []) more
+
+unfoldable pub decimal : ℕ → List ℕ
+decimal n = digitsIn n n
+
+abbrev pub space : List ℕ
+space = 32 ∷ []
+
+abbrev pub lineFeed : List ℕ
+lineFeed = 10 ∷ []
+
+-- "A refusal is the single line `refused n`."
+unfoldable pub refusedLine : ℕ → List ℕ
+refusedLine n = (114 ∷ 101 ∷ 102 ∷ 117 ∷ 115 ∷ 101 ∷ 100 ∷ 32 ∷ []) ++ decimal n ++ lineFeed
+
+-- m, or `none`
+abbrev pub thousandthsText : Option ℕ → List ℕ
+thousandthsText none = 110 ∷ 111 ∷ 110 ∷ 101 ∷ []
+thousandthsText (some m) = decimal m
+
+-- "One checks and writes `p q N K m`"
+unfoldable pub checkText : CheckAnswer → List ℕ
+checkText (refused n) = refusedLine n
+checkText (share p q n k) =
+    decimal p ++ space ++ decimal q ++ space ++ decimal n ++ space ++ decimal k ++ space ++ thousandthsText (thousandths p q) ++ lineFeed
+
+-- "The first line of the trace is `slot label run gain`"
+abbrev pub traceHeader : List ℕ
+traceHeader =
+    115 ∷ 108 ∷ 111 ∷ 116 ∷ 32 ∷ 108 ∷ 97 ∷ 98 ∷ 101 ∷ 108 ∷ 32 ∷ 114 ∷ 117 ∷ 110 ∷ 32 ∷ 103 ∷ 97 ∷ 105 ∷ 110 ∷ 10 ∷ []
+
+-- "then a line per label: its slot, the label, the task that ran (0: none), the slot's gain"; from the slot t on
+abbrev pub traceLines : ℕ → List ℕ → List Done → List ℕ
+traceLines t [] ds = []
+traceLines t (l ∷ ls) [] = []
+traceLines t (l ∷ ls) (d ∷ ds) =
+    decimal t ++ space ++ decimal l ++ space ++ decimal (d .ran) ++ space ++ decimal (d .gain) ++ lineFeed ++ traceLines (suc t) ls ds
+
+unfoldable pub traceText : List ℕ → TraceAnswer → List ℕ
+traceText labels (TraceAnswer.refused n) = refusedLine n
+traceText labels (traced ds) = traceHeader ++ traceLines 0 labels ds
