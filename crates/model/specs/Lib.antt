@@ -14,3 +14,4 @@ pub mod Check
 pub mod Solve
 pub mod Trace
 pub mod Text
+pub mod Cases

@@ -1,0 +1,112 @@
+-- The marked cases of document 01: one table, and one theorem that the definitions give every line of it.
+use mathlib.Core.Path.{_≡_, refl}
+use Prim.Native.Nat.{ℕ}
+use mathlib.Core.List.{List, [], _∷_, _++_, map}
+use mathlib.Core.Option.{Option, none, some}
+use lib.IntN.{ℤ, pos, negsuc}
+use Rattle.model.specs.Limits.{workRoom, traceRoom}
+use Rattle.model.specs.Lists.{flatMap, upFrom}
+use Rattle.model.specs.Bytes.{number, signed}
+use Rattle.model.specs.Plan.{readPlan, readFrom, fault, after, width, mayFollow, inRange}
+use Rattle.model.specs.Slot.{Done, slot, ready, first, key}
+use Rattle.model.specs.Masks.{masksOf}
+use Rattle.model.specs.Graph.{choices, edgeOf, edgesAt, edges, explored, nodes, tooLarge}
+use Rattle.model.specs.Certificate.{Certificate, readCertificate, readPotentials, readSteps}
+use Rattle.model.specs.Check.{CheckAnswer, check, verdict, fractionOk, gcd, potentialsOk, cycleOk, follow, allowance, thousandths}
+use Rattle.model.specs.Trace.{TraceAnswer, trace, traceRun}
+
+-- what goes in: the bytes of a plan with those of a certificate or with labels, or of a certificate alone
+pub data Input : Type 0 where
+  checking : List ℕ → List ℕ → Input
+  tracing : List ℕ → List ℕ → Input
+  potentials : List ℕ → Input
+
+-- what comes out: the numbers of the checked line; the task that ran and the gain of each slot; the potentials; a refusal
+pub data Output : Type 0 where
+  line : (p q n k : ℕ) (m : Option ℕ) → Output
+  slots : List (ℕ × ℕ) → Output
+  signs : List ℤ → Output
+  refusal : ℕ → Output
+
+abbrev pub checked : CheckAnswer → Output
+checked (CheckAnswer.refused n) = refusal n
+checked (CheckAnswer.share p q n k) = line p q n k (thousandths p q)
+
+abbrev pub traced : TraceAnswer → Output
+traced (TraceAnswer.refused n) = refusal n
+traced (TraceAnswer.traced ds) = slots (map (λ d. (d .ran, d .gain)) ds)
+
+abbrev pub potentialsRead : Option Certificate → Output
+potentialsRead none = signs []
+potentialsRead (some c) = signs (c .potentials)
+
+-- what the definitions give, with just enough memory lent
+abbrev pub outcome : Input → Output
+outcome (checking plan certificate) = checked (check plan certificate workRoom)
+outcome (tracing plan labels) = traced (trace plan labels traceRoom)
+outcome (potentials certificate) = potentialsRead (readCertificate certificate)
+
+pub record Case : Type 0 where
+  pub input : Input
+  pub output : Output
+
+infix 10 _gives_
+abbrev pub _gives_ : Input → Output → Case
+i gives o = record { input = i; output = o }
+
+-- A: `01 01 01 01 02 01 03 01 04 00 00 00 04 00 01 00 05`
+abbrev pub planA : List ℕ
+planA = 0x01 ∷ 0x01 ∷ 0x01 ∷ 0x01 ∷ 0x02 ∷ 0x01 ∷ 0x03 ∷ 0x01 ∷ 0x04 ∷ 0x00 ∷ 0x00 ∷ 0x00 ∷ 0x04 ∷ 0x00 ∷ 0x01 ∷ 0x00 ∷ 0x05 ∷ []
+
+-- B: tasks (1,1,1) and (2,2,3), EDF, one state admitting labels 0 to 3
+abbrev pub planB : List ℕ
+planB = 0x01 ∷ 0x01 ∷ 0x01 ∷ 0x01 ∷ 0x01 ∷ 0x02 ∷ 0x02 ∷ 0x03 ∷ 0x02 ∷ 0x01 ∷ 0x03 ∷ 0x01 ∷ 0x04 ∷ 0x00 ∷ 0x00 ∷ 0x00 ∷ 0x04 ∷ 0x00 ∷ 0x01 ∷ 0x00 ∷ 0x04 ∷ 0x00 ∷ 0x02 ∷ 0x00 ∷ 0x04 ∷ 0x00 ∷ 0x03 ∷ 0x00 ∷ 0x05 ∷ []
+
+-- C: task (1,1,1), state 0 admits 1 to state 1, which admits 0 to itself
+abbrev pub planC : List ℕ
+planC = 0x01 ∷ 0x01 ∷ 0x01 ∷ 0x01 ∷ 0x02 ∷ 0x01 ∷ 0x03 ∷ 0x02 ∷ 0x04 ∷ 0x00 ∷ 0x01 ∷ 0x01 ∷ 0x04 ∷ 0x01 ∷ 0x00 ∷ 0x01 ∷ 0x05 ∷ []
+
+-- D: plan A without its two `04`
+abbrev pub planD : List ℕ
+planD = 0x01 ∷ 0x01 ∷ 0x01 ∷ 0x01 ∷ 0x02 ∷ 0x01 ∷ 0x03 ∷ 0x01 ∷ 0x05 ∷ []
+
+abbrev pub certificateA : List ℕ
+certificateA = 0x11 ∷ 0x00 ∷ 0x00 ∷ 0x00 ∷ 0x01 ∷ 0x00 ∷ 0x00 ∷ 0x00 ∷ 0x01 ∷ 0x00 ∷ 0x01 ∷ 0x12 ∷ 0x00 ∷ 0x00 ∷ 0x00 ∷ 0x00 ∷ 0x00 ∷ 0x00 ∷ 0x00 ∷ 0x00 ∷ 0x13 ∷ 0x00 ∷ 0x00 ∷ 0x14 ∷ 0x01 ∷ 0x01 ∷ 0x00 ∷ 0x00 ∷ 0x00 ∷ 0x15 ∷ []
+
+abbrev pub certificateB : List ℕ
+certificateB = 0x11 ∷ 0x00 ∷ 0x00 ∷ 0x00 ∷ 0x01 ∷ 0x00 ∷ 0x00 ∷ 0x00 ∷ 0x03 ∷ 0x00 ∷ 0x05 ∷ 0x12 ∷ 0x00 ∷ 0x00 ∷ 0x00 ∷ 0x00 ∷ 0x00 ∷ 0x00 ∷ 0x00 ∷ 0x00 ∷ 0x12 ∷ 0x00 ∷ 0x00 ∷ 0x00 ∷ 0x00 ∷ 0x00 ∷ 0x00 ∷ 0x00 ∷ 0x00 ∷ 0x12 ∷ 0xff ∷ 0xff ∷ 0xff ∷ 0xff ∷ 0xff ∷ 0xff ∷ 0xff ∷ 0xfd ∷ 0x12 ∷ 0x00 ∷ 0x00 ∷ 0x00 ∷ 0x00 ∷ 0x00 ∷ 0x00 ∷ 0x00 ∷ 0x00 ∷ 0x12 ∷ 0x00 ∷ 0x00 ∷ 0x00 ∷ 0x00 ∷ 0x00 ∷ 0x00 ∷ 0x00 ∷ 0x00 ∷ 0x13 ∷ 0x00 ∷ 0x00 ∷ 0x14 ∷ 0x02 ∷ 0x00 ∷ 0x03 ∷ 0x00 ∷ 0x00 ∷ 0x14 ∷ 0x01 ∷ 0x00 ∷ 0x00 ∷ 0x00 ∷ 0x00 ∷ 0x15 ∷ []
+
+abbrev pub certificateC : List ℕ
+certificateC = 0x11 ∷ 0x00 ∷ 0x00 ∷ 0x00 ∷ 0x01 ∷ 0x00 ∷ 0x00 ∷ 0x00 ∷ 0x00 ∷ 0x00 ∷ 0x02 ∷ 0x12 ∷ 0x00 ∷ 0x00 ∷ 0x00 ∷ 0x00 ∷ 0x00 ∷ 0x00 ∷ 0x00 ∷ 0x00 ∷ 0x12 ∷ 0xff ∷ 0xff ∷ 0xff ∷ 0xff ∷ 0xff ∷ 0xff ∷ 0xff ∷ 0xff ∷ 0x15 ∷ []
+
+abbrev pub certificateD : List ℕ
+certificateD = 0x11 ∷ 0x00 ∷ 0x00 ∷ 0x00 ∷ 0x01 ∷ 0x00 ∷ 0x00 ∷ 0x00 ∷ 0x00 ∷ 0x00 ∷ 0x01 ∷ 0x12 ∷ 0x00 ∷ 0x00 ∷ 0x00 ∷ 0x00 ∷ 0x00 ∷ 0x00 ∷ 0x00 ∷ 0x00 ∷ 0x15 ∷ []
+
+-- plan D with another task
+abbrev pub withTask : ℕ → ℕ → ℕ → List ℕ
+withTask c d v = 0x01 ∷ c ∷ d ∷ v ∷ 0x02 ∷ 0x01 ∷ 0x03 ∷ 0x01 ∷ 0x05 ∷ []
+
+-- plan D with the task five times
+abbrev pub fiveTasks : List ℕ
+fiveTasks = flatMap (λ i. 0x01 ∷ 0x01 ∷ 0x01 ∷ 0x01 ∷ []) (upFrom 1 4) ++ planD
+
+abbrev pub cases : List Case
+cases =
+    (checking planA certificateA gives line 1 1 1 0 (some 1000))
+    ∷ (checking planB certificateB gives line 1 3 5 3 (some 333))
+    ∷ (tracing planB (2 ∷ 1 ∷ 0 ∷ []) gives slots ((2, 0) ∷ (1, 1) ∷ (0, 0) ∷ []))
+    ∷ (tracing planB (3 ∷ 0 ∷ []) gives slots ((1, 1) ∷ (0, 0) ∷ []))
+    ∷ (checking planC certificateC gives line 1 0 2 1 none)
+    ∷ (potentials certificateC gives signs (pos 0 ∷ negsuc 0 ∷ []))
+    ∷ (checking planD certificateD gives line 1 0 1 0 none)
+    ∷ (checking [] [] gives refusal 1)
+    ∷ (checking (withTask 1 9 1) [] gives refusal 4)
+    ∷ (checking (withTask 1 1 0) [] gives refusal 4)
+    ∷ (checking (withTask 3 2 1) [] gives refusal 4)
+    ∷ (checking fiveTasks [] gives refusal 3)
+    ∷ []
+
+-- the definitions give every case its output
+pub marked : map (λ c. outcome (c .input)) cases ≡ map (λ c. c .output) cases
+unfolding number signed readPlan readFrom fault after width mayFollow inRange slot ready first key masksOf choices edgeOf edgesAt edges explored nodes tooLarge readCertificate readPotentials readSteps check verdict fractionOk gcd potentialsOk cycleOk follow allowance thousandths trace traceRun
+marked = refl
