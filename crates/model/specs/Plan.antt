@@ -73,13 +73,21 @@ mayFollow r c =
     (cond (eqb c 3) (not (isZero (r .policy)) && isZero (r .states))
     (not (isZero (r .states)))))
 
--- "1 ≤ C ≤ D ≤ 8, V 1 to 255"; "policy (1 to 4)"; "M states (1 to 16)"; "S, T below M, L below 2 to the number of tasks"
+-- "1 ≤ C ≤ D ≤ 8, V 1 to 255"
+unfoldable pub taskInRange : ℕ → ℕ → ℕ → Bool
+taskInRange c d v = leb 1 c && leb c d && leb d maxWindow && between 1 v maxValue
+
+-- "S, T below M, L below 2 to the number of tasks"
+unfoldable pub arcInRange : Reading → ℕ → ℕ → ℕ → Bool
+arcInRange r s l t = ltb s (r .states) && ltb l (2 ^ length (r .tasks)) && ltb t (r .states)
+
+-- the operands x, y, z of the command c; "policy (1 to 4)", "M states (1 to 16)"
 unfoldable pub inRange : Reading → ℕ → ℕ → ℕ → ℕ → Bool
 inRange r c x y z =
-    cond (eqb c 1) (leb 1 x && leb x y && leb y maxWindow && between 1 z maxValue)
+    cond (eqb c 1) (taskInRange x y z)
     (cond (eqb c 2) (between 1 x 4)
     (cond (eqb c 3) (between 1 x maxStates)
-    (cond (eqb c 4) (ltb x (r .states) && ltb y (2 ^ length (r .tasks)) && ltb z (r .states))
+    (cond (eqb c 4) (arcInRange r x y z)
     true)))
 
 -- the order of pairs (S, L)
@@ -95,18 +103,14 @@ rising (a ∷ b ∷ as′) s l = rising (b ∷ as′) s l
 abbrev pub pairRises : Reading → ℕ → ℕ → ℕ → Bool
 pairRises r c s l = cond (eqb c 4) (rising (r .arcs) s l) true
 
--- The fault of the command at the head of the bytes, 0 for none: "3 (a byte after `05`), 2, 3 (may not follow, a fifth task),
--- 1, 4, 3 (pairs) are tried in turn".
-unfoldable pub fault : Reading → List ℕ → ℕ
-fault r bs =
-    let c = getD bs 0 0 in
-    let x = getD bs 1 0 in
-    let y = getD bs 2 0 in
-    let z = getD bs 3 0 in
+-- The fault of the command c with operands x, y, z, where so many bytes are left from it on; 0 for none: "3 (a byte after `05`), 2,
+-- 3 (may not follow, a fifth task), 1, 4, 3 (pairs) are tried in turn".
+unfoldable pub fault : Reading → ℕ → ℕ → ℕ → ℕ → ℕ → ℕ
+fault r left c x y z =
     cond (r .ended) outOfPlace
     (cond (unknown c) unknownCommand
     (cond (not (mayFollow r c)) outOfPlace
-    (cond (ltb (length bs) (width c)) bytesEnd
+    (cond (ltb left (width c)) bytesEnd
     (cond (not (inRange r c x y z)) outOfRange
     (cond (not (pairRises r c x y)) outOfPlace
     0)))))
@@ -134,8 +138,11 @@ abbrev pub readCommands : ℕ → List ℕ → Reading → PlanAnswer
 readCommands zero bs r = faulty bytesEnd
 readCommands (suc n) [] r = atEnd r
 readCommands (suc n) (c ∷ bs) r =
-    let rest = readCommands n (drop (width c) (c ∷ bs)) (after r c (getD bs 0 0) (getD bs 1 0) (getD bs 2 0)) in
-    refusedOr (fault r (c ∷ bs)) rest
+    let x = getD bs 0 0 in
+    let y = getD bs 1 0 in
+    let z = getD bs 2 0 in
+    let rest = readCommands n (drop (width c) (c ∷ bs)) (after r c x y z) in
+    refusedOr (fault r (length (c ∷ bs)) c x y z) rest
 
 -- what is read from here on
 unfoldable pub readFrom : List ℕ → Reading → PlanAnswer

@@ -1,0 +1,121 @@
+-- Laws of the reading of plan bytes: one command at a time, and what a command without a fault is.
+-- Assumes nothing.
+use mathlib.Core.Path.{_≡_, refl, sym, ap, _∙_, subst}
+use mathlib.Core.Bool.{Bool, true, false, cond, not, _&&_, _||_, false≢true}
+use mathlib.Core.List.{List, [], _∷_}
+use Prim.Native.Nat.{ℕ, zero, suc, _+_, _-_, _^_, _≤_, _<_, suc-le-suc}
+use native.Mathlib.Nat.{le-of-suc-le-suc, not-suc-le-zero}
+use native.Mathlib.Numerals.{add-one}
+use native.Mathlib.Omega.{arith}
+use borrow.Author.Tests.{ltb-true, ltb-false}
+use lib.Dec.{T, eqb, ltb, leb}
+use lib.ListN.{length, getD, drop, length-drop}
+use lib.Seq.{drop-cons, drop-drop, getD-drop}
+use Rattle.model.specs.Plan.{Reading, PlanAnswer, readCommands, readFrom, refusedOr, fault, after, width, atEnd, mayFollow, inRange, arcInRange, pairRises, unknown}
+use Rattle.model.specs.Refusals.{bytesEnd, unknownCommand, outOfPlace, outOfRange}
+
+pub both : (a b : Bool) → (a && b) ≡ true → (a ≡ true) × (b ≡ true)
+both true b h = (refl, h)
+both false b h = absurd (false≢true h)
+
+-- every command takes a byte
+pub width-pos : (c : ℕ) → 1 ≤ width c
+unfolding width
+width-pos c = go (eqb c 1 || eqb c 4) (eqb c 5)
+  where
+    go : (a b : Bool) → 1 ≤ cond a 4 (cond b 1 2)
+    go true b = omega arith
+    go false true = omega arith
+    go false false = omega arith
+
+-- turns to spare change nothing
+fuel : (n m : ℕ) (bs : List ℕ) (r : Reading) → length bs < n → length bs < m → readCommands n bs r ≡ readCommands m bs r
+fuel zero m bs r h k = absurd (not-suc-le-zero h)
+fuel (suc n) zero bs r h k = absurd (not-suc-le-zero k)
+fuel (suc n) (suc m) [] r h k = refl
+fuel (suc n) (suc m) (c ∷ bs) r h k =
+    ap (refusedOr (fault r (length (c ∷ bs)) c (getD bs 0 0) (getD bs 1 0) (getD bs 2 0)))
+    (fuel n m (drop (width c) (c ∷ bs)) (after r c (getD bs 0 0) (getD bs 1 0) (getD bs 2 0))
+    (omega (arith, length-drop (width c) (c ∷ bs), width-pos c))
+    (omega (arith, length-drop (width c) (c ∷ bs), width-pos c)))
+
+pub readFrom-nil : (r : Reading) → readFrom [] r ≡ atEnd r
+unfolding readFrom
+readFrom-nil r = refl
+
+readFrom-cons : (c : ℕ) (bs : List ℕ) (r : Reading) →
+    readFrom (c ∷ bs) r ≡ refusedOr (fault r (length (c ∷ bs)) c (getD bs 0 0) (getD bs 1 0) (getD bs 2 0)) (readFrom (drop (width c) (c ∷ bs)) (after r c (getD bs 0 0) (getD bs 1 0) (getD bs 2 0)))
+unfolding readFrom
+readFrom-cons c bs r =
+    ap (refusedOr (fault r (length (c ∷ bs)) c (getD bs 0 0) (getD bs 1 0) (getD bs 2 0)))
+    (fuel (suc (length bs)) (suc (length (drop (width c) (c ∷ bs)))) (drop (width c) (c ∷ bs)) (after r c (getD bs 0 0) (getD bs 1 0) (getD bs 2 0))
+    (omega (arith, length-drop (width c) (c ∷ bs), width-pos c))
+    (omega arith))
+
+operand : (s : List ℕ) (at k j : ℕ) → suc at + k ≡ at + j → getD (drop (suc at) s) k 0 ≡ getD s (at + j) 0
+operand s at k j e = getD-drop (suc at) s k 0 ∙ ap (λ (i : ℕ). getD s i 0) e
+
+-- the command at a place: its fault, or what is read past it
+pub readFrom-at : (s : List ℕ) (at : ℕ) (r : Reading) → at < length s →
+    readFrom (drop at s) r
+    ≡ refusedOr (fault r (length s - at) (getD s at 0) (getD s (at + 1) 0) (getD s (at + 2) 0) (getD s (at + 3) 0))
+    (readFrom (drop (at + width (getD s at 0)) s) (after r (getD s at 0) (getD s (at + 1) 0) (getD s (at + 2) 0) (getD s (at + 3) 0)))
+readFrom-at s at r h =
+    let e : drop at s ≡ getD s at 0 ∷ drop (suc at) s = drop-cons s at 0 h in
+    let left : length (drop at s) ≡ length s - at = length-drop at s in
+    let rest : drop (width (getD s at 0)) (drop at s) ≡ drop (at + width (getD s at 0)) s = drop-drop (width (getD s at 0)) at s in
+    let x : getD (drop (suc at) s) 0 0 ≡ getD s (at + 1) 0 = operand s at 0 1 (omega arith) in
+    let y : getD (drop (suc at) s) 1 0 ≡ getD s (at + 2) 0 = operand s at 1 2 (omega arith) in
+    let z : getD (drop (suc at) s) 2 0 ≡ getD s (at + 3) 0 = operand s at 2 3 (omega arith) in
+    cc (readFrom-cons (getD s at 0) (drop (suc at) s) r, ap length e)
+
+-- what a command without a fault is
+pub record Passes (r : Reading) (left c x y z : ℕ) : Type 0 where
+  pub going : r .ended ≡ false
+  pub known : unknown c ≡ false
+  pub follows : mayFollow r c ≡ true
+  pub whole : width c ≤ left
+  pub ranged : inRange r c x y z ≡ true
+  pub rises : pairRises r c x y ≡ true
+
+-- the first of the tests that fails, by the tests' results
+abbrev pub firstFault : Bool → Bool → Bool → Bool → Bool → Bool → ℕ
+firstFault ended unknown follows short ranged rises =
+    cond ended outOfPlace
+    (cond unknown unknownCommand
+    (cond (not follows) outOfPlace
+    (cond short bytesEnd
+    (cond (not ranged) outOfRange
+    (cond (not rises) outOfPlace
+    0)))))
+
+none-fails : (e u f s g p : Bool) → firstFault e u f s g p ≡ 0 →
+    (e ≡ false) × (u ≡ false) × (f ≡ true) × (s ≡ false) × (g ≡ true) × (p ≡ true)
+none-fails true u f s g p h = absurd (omega arith)
+none-fails false true f s g p h = absurd (omega arith)
+none-fails false false false s g p h = absurd (omega arith)
+none-fails false false true true g p h = absurd (omega arith)
+none-fails false false true false false p h = absurd (omega arith)
+none-fails false false true false true false h = absurd (omega arith)
+none-fails false false true false true true h = (refl, refl, refl, refl, refl, refl)
+
+module _ (r : Reading) (left c x y z : ℕ) where
+  pub fault-is : {e u f s g p : Bool} → r .ended ≡ e → unknown c ≡ u → mayFollow r c ≡ f → ltb left (width c) ≡ s →
+      inRange r c x y z ≡ g → pairRises r c x y ≡ p → fault r left c x y z ≡ firstFault e u f s g p
+  unfolding fault
+  fault-is e u f s g p = λ i. firstFault (e i) (u i) (f i) (s i) (g i) (p i)
+
+  pub fault-none : fault r left c x y z ≡ 0 → Passes r left c x y z
+  unfolding fault
+  fault-none h =
+      let t = none-fails (r .ended) (unknown c) (mayFollow r c) (ltb left (width c)) (inRange r c x y z) (pairRises r c x y) h in
+      record { going = t .0; known = t .1; follows = t .2; whole = ltb-false _ _ (t .3); ranged = t .4; rises = t .5 }
+
+-- an arc in range
+pub arc-ranged : (r : Reading) (c s l t : ℕ) → c ≡ 4 → inRange r c s l t ≡ true → (s < r .states) × (l < 2 ^ length (r .tasks)) × (t < r .states)
+unfolding inRange arcInRange
+arc-ranged r c s l t e h =
+    let all : (ltb s (r .states) && ltb l (2 ^ length (r .tasks)) && ltb t (r .states)) ≡ true = simp e at h in
+    let two = both _ _ all in
+    let one = both _ _ (two .0) in
+    (ltb-true _ _ (one .0), ltb-true _ _ (one .1), ltb-true _ _ (two .1))

@@ -1,0 +1,207 @@
+// The plan reader: plan bytes in, the plan as a struct by value out, or the fault.
+ghost use mathlib.Core.Path.{_≡_};
+ghost use Prim.Native.Nat.{ℕ, _+_, _*_, _^_, _<_, _≤_};
+ghost use mathlib.Core.List.{List};
+ghost use lib.ListN.{length, getD, drop};
+ghost use Rattle.model.specs.Plan.{Arc, width, mayFollow, between, taskInRange, arcInRange, inRange, pairRises, fault, after, readPlan};
+ghost use Rattle.model.specs.Limits.{maxTasks};
+ghost use Rattle.plan.specs.View.{faultNumber, checkNumber, answerOf, readingOf, arcsIn, labelCount, Within, Least};
+
+const MAX_TASKS: usize = 4;
+
+const MAX_WINDOW: u8 = 8;
+
+const MAX_STATES: u8 = 16;
+
+// The labels of a state stand side by side in the table of next states.
+pub const LABELS: usize = 16;
+
+pub const PAIRS: usize = 256;
+
+pub struct Task {
+    pub work: u8,
+    pub window: u8,
+    pub value: u8,
+}
+
+// A sound plan: the first `count` tasks, the policy, the number of states, and for the state S and the
+// label L, at 16 S + L, the next state and 1, or 0 where the label is not admitted.
+pub struct Plan {
+    pub tasks: [Task; 4],
+    pub count: usize,
+    pub policy: u8,
+    pub states: u8,
+    pub next: [u8; 256],
+}
+
+// Faults of a plan: bytes that end too early, an unknown command, a command out of place, an operand
+// out of range.
+pub enum Fault {
+    BytesEnd,
+    UnknownCommand,
+    OutOfPlace,
+    OutOfRange,
+}
+
+pub enum Outcome {
+    Sound,
+    Faulty(Fault),
+}
+
+// The plan is meant only where the outcome is sound.
+pub struct PlanRead {
+    pub outcome: Outcome,
+    pub plan: Plan,
+}
+
+// What the commands read so far say. The first `count` tasks are given; 0 stands for a policy or a
+// number of states not given yet; the next arc's 16 S + L must be `least` or more.
+struct Reading {
+    tasks: [Task; 4],
+    count: usize,
+    policy: u8,
+    states: u8,
+    least: usize,
+    ended: bool,
+}
+
+// How many bytes a command takes.
+fn width_of(c: u8) -> usize
+    ensures { λ r. ⌜ r ≡ width c ⌝ }
+{
+    match c {
+        1 | 4 => 4,
+        5 => 1,
+        _ => 2,
+    }
+}
+
+// The byte at a place, 0 past the end.
+fn byte_at(s: &[u8], at: usize) -> u8
+    ensures { λ r. ⌜ r ≡ getD (now (s .entry)) at 0 ⌝ }
+{
+    if at < s.len() { s[at] } else { 0 }
+}
+
+// Whether a command may follow those read.
+fn may_follow(r: Reading, c: u8) -> bool
+    requires { ⌜ Within r ⌝ }
+    ensures { λ b. ⌜ ((arcs : List Arc) → b ≡ mayFollow (readingOf r arcs) c) ⌝ }
+{
+    let policy = r.policy;
+    let states = r.states;
+    let count = r.count;
+    match c {
+        1 => if policy == 0 {
+            count < MAX_TASKS
+        } else {
+            false
+        },
+        2 => if policy == 0 { count != 0 } else { false },
+        3 => if policy == 0 { false } else { states == 0 },
+        _ => states != 0,
+    }
+}
+
+// Whether a task's work, window and value are in range.
+fn task_in_range(c: u8, d: u8, v: u8) -> bool
+    ensures { λ b. ⌜ b ≡ taskInRange c d v ⌝ }
+{
+    if c < 1 {
+        return false;
+    }
+    if d < c {
+        return false;
+    }
+    if MAX_WINDOW < d {
+        return false;
+    }
+    1 <= v
+}
+
+// How many labels a number of tasks has.
+fn labels(count: usize) -> usize
+    requires { ⌜ count ≤ maxTasks ⌝ }
+    ensures { λ r. ⌜ r ≡ 2 ^ count ⌝ }
+{
+    1 << count
+}
+
+// Whether an arc's states and label are in range.
+fn arc_in_range(r: Reading, s: u8, l: u8, t: u8) -> bool
+    requires { ⌜ Within r ⌝ }
+    ensures { λ b. ⌜ ((arcs : List Arc) → b ≡ arcInRange (readingOf r arcs) s l t) ⌝ }
+{
+    let states = r.states;
+    if states <= s {
+        return false;
+    }
+    if labels(r.count) <= l as usize {
+        return false;
+    }
+    t < states
+}
+
+// Whether a number is from 1 to a limit.
+fn up_to(n: u8, limit: u8) -> bool
+    ensures { λ b. ⌜ b ≡ between 1 n limit ⌝ }
+{
+    if n < 1 {
+        return false;
+    }
+    n <= limit
+}
+
+// Whether a command's operands are in range.
+fn in_range(r: Reading, c: u8, x: u8, y: u8, z: u8) -> bool
+    requires { ⌜ Within r ⌝ }
+    ensures { λ b. ⌜ ((arcs : List Arc) → b ≡ inRange (readingOf r arcs) c x y z) ⌝ }
+{
+    match c {
+        1 => task_in_range(x, y, z),
+        2 => up_to(x, 4),
+        3 => up_to(x, MAX_STATES),
+        4 => arc_in_range(r, x, y, z),
+        _ => true,
+    }
+}
+
+// The place of a state and a label in the table of next states.
+pub fn pair(s: u8, l: u8) -> usize
+    ensures { λ r. ⌜ r ≡ s * labelCount + l ⌝ }
+{
+    LABELS * s as usize + l as usize
+}
+
+// Whether an arc's pair rises above those before it; no other command has one.
+fn pair_rises(r: Reading, c: u8, s: u8, l: u8) -> bool
+    ensures { λ b. ⌜ ((arcs : List Arc) → Least arcs (r .least) → (c ≡ 4 → l < labelCount) → b ≡ pairRises (readingOf r arcs) c s l) ⌝ }
+{
+    if c == 4 { r.least <= pair(s, l) } else { true }
+}
+
+// The fault of a command with `left` bytes from it on, tried in the order of the refusals.
+fn fault_of(r: Reading, left: usize, c: u8, x: u8, y: u8, z: u8) -> Outcome
+    requires { ⌜ Within r ⌝ }
+    ensures { λ o. ⌜ ((arcs : List Arc) → Least arcs (r .least) → checkNumber o ≡ fault (readingOf r arcs) left c x y z) ⌝ }
+{
+    if r.ended {
+        return Outcome::Faulty(Fault::OutOfPlace);
+    }
+    if !up_to(c, 5) {
+        return Outcome::Faulty(Fault::UnknownCommand);
+    }
+    if !may_follow(r, c) {
+        return Outcome::Faulty(Fault::OutOfPlace);
+    }
+    if left < width_of(c) {
+        return Outcome::Faulty(Fault::BytesEnd);
+    }
+    if !in_range(r, c, x, y, z) {
+        return Outcome::Faulty(Fault::OutOfRange);
+    }
+    if !pair_rises(r, c, x, y) {
+        return Outcome::Faulty(Fault::OutOfPlace);
+    }
+    Outcome::Sound
+}
