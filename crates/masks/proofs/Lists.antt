@@ -105,12 +105,15 @@ getD-upFrom k zero i d h = absurd (not-suc-le-zero h)
 getD-upFrom k (suc n) zero d h = omega arith
 getD-upFrom k (suc n) (suc i) d h = omega (arith, getD-upFrom (suc k) n i d (le-of-suc-le-suc h))
 
--- a table of f, from k up
-pub getD-map-upFrom {ℓ} : {B : Type ℓ} (f : ℕ → B) (k n i : ℕ) (d : B) → i < n → getD (map f (upFrom k n)) i d ≡ f (k + i)
+-- a table of f: its entry at i is f i
+getD-map-upFrom {ℓ} : {B : Type ℓ} (f : ℕ → B) (k n i : ℕ) (d : B) → i < n → getD (map f (upFrom k n)) i d ≡ f (k + i)
 getD-map-upFrom f k zero i d h = absurd (not-suc-le-zero h)
 getD-map-upFrom f k (suc n) zero d h = ap f (sym (add-zero k))
 getD-map-upFrom f k (suc n) (suc i) d h =
     getD-map-upFrom f (suc k) n i d (le-of-suc-le-suc h) ∙ ap f (suc-add k i ∙ sym (add-suc k i))
+
+pub getD-table {ℓ} : {B : Type ℓ} (f : ℕ → B) (n i : ℕ) (d : B) → i < n → getD (map f (upFrom 0 n)) i d ≡ f i
+getD-table f n i d h = getD-map-upFrom f 0 n i d h ∙ ap f (zero-add i)
 
 -- the numbers from k up, split at k + m
 pub upFrom-append : (k m n : ℕ) → upFrom k (m + n) ≡ upFrom k m ++ upFrom (k + m) n

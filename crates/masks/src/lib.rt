@@ -270,92 +270,17 @@ const MASKS: [u8; 256] = [
 // Where the group of c ones starts in the table; at 9, the table's length.
 const STARTS: [usize; 10] = [0, 1, 9, 37, 93, 163, 219, 247, 255, 256];
 
-// The number of windows, 0 to 8.
-const WINDOWS: usize = 9;
-
-// At c * WINDOWS + window: where the masks of c ones below bit `window` end in the table.
-const ENDS: [usize; 81] = [
-    1,
-    1,
-    1,
-    1,
-    1,
-    1,
-    1,
-    1,
-    1,
-    1,
-    2,
-    3,
-    4,
-    5,
-    6,
-    7,
-    8,
-    9,
-    9,
-    9,
-    10,
-    12,
-    15,
-    19,
-    24,
-    30,
-    37,
-    37,
-    37,
-    37,
-    38,
-    41,
-    47,
-    57,
-    72,
-    93,
-    93,
-    93,
-    93,
-    93,
-    94,
-    98,
-    108,
-    128,
-    163,
-    163,
-    163,
-    163,
-    163,
-    163,
-    164,
-    169,
-    184,
-    219,
-    219,
-    219,
-    219,
-    219,
-    219,
-    219,
-    220,
-    226,
-    247,
-    247,
-    247,
-    247,
-    247,
-    247,
-    247,
-    247,
-    248,
-    255,
-    255,
-    255,
-    255,
-    255,
-    255,
-    255,
-    255,
-    255,
-    256,
+// Row c, at `window`: where the masks of c ones below bit `window` end in the table.
+const ENDS: [[usize; 9]; 9] = [
+    [1, 1, 1, 1, 1, 1, 1, 1, 1],
+    [1, 2, 3, 4, 5, 6, 7, 8, 9],
+    [9, 9, 10, 12, 15, 19, 24, 30, 37],
+    [37, 37, 37, 38, 41, 47, 57, 72, 93],
+    [93, 93, 93, 93, 94, 98, 108, 128, 163],
+    [163, 163, 163, 163, 163, 164, 169, 184, 219],
+    [219, 219, 219, 219, 219, 219, 220, 226, 247],
+    [247, 247, 247, 247, 247, 247, 247, 248, 255],
+    [255, 255, 255, 255, 255, 255, 255, 255, 256],
 ];
 
 // The mask at place i of the table.
@@ -379,5 +304,6 @@ pub fn group_end(c: usize, window: usize) -> usize
     requires { ⌜ (c ≤ maxWindow) × (window ≤ maxWindow) ⌝ }
     ensures { λ r. ⌜ r ≡ groupStart c + length (keep (λ m. ltb m (2 ^ window)) (group c)) ⌝ }
 {
-    ENDS[c * WINDOWS + window]
+    let row = ENDS[c];
+    row[window]
 }

@@ -1,12 +1,10 @@
 -- `masks::group_start` meets its contract: the constant lists the starts, by one test that antt computes.
 -- Assumes nothing.
-use mathlib.Core.Path.{_∙_, ap}
 use Prim.Native.Nat.{suc}
-use native.Mathlib.Nat.{zero-add}
 use borrow.Author.Needs.{needs}
 use Rattle.model.specs.Limits.{maxWindow}
 use Rattle.model.specs.Masks.{group, groupsBelow, groupStart}
-use Rattle.masks.proofs.Lists.{getD-map-upFrom}
+use Rattle.masks.proofs.Lists.{getD-table}
 use Rattle.masks.proofs.group_start.Statement.{statement}
 use Rattle.masks.proofs.group_start.Tie as tie
 
@@ -18,8 +16,7 @@ array-read-result c = search needs
 
 returns : tie.Need-returns
 unfolding groupStart groupsBelow group
-returns c =
-    getD-map-upFrom groupStart 0 (suc (suc maxWindow)) (c .args .c) 0 (search needs) ∙ ap groupStart (zero-add (c .args .c))
+returns c = getD-table groupStart (suc (suc maxWindow)) (c .args .c) 0 (search needs)
 
 pub group-start-spec : {M : Type 1} → statement M
 group-start-spec = tie.close (tie.spec mul-result array-read-result returns)
