@@ -2,19 +2,18 @@
 -- Assumes nothing.
 use mathlib.Core.Path.{_≡_, refl, sym, _∙_, ap}
 use mathlib.Core.Logic.{_↔_}
-use mathlib.Core.Bool.{Bool, true, false}
-use mathlib.Core.List.{List, [], _∷_, _++_, append-assoc, append-nil, List·Memᴰ, Memᴰ·cast}
+use mathlib.Core.List.{List, _++_, append-nil, List·Memᴰ, Memᴰ·cast}
 use Prim.Native.Nat.{ℕ, zero, suc, _+_, _-_, _/_, _^_, _<_, _≤_}
 use native.Mathlib.Nat.{zero-add, add-sub-of-le}
 use native.Mathlib.Numerals.{add-one}
 use native.Mathlib.Omega.{arith}
 use lib.Dec.{eqb, ltb}
 use lib.ListN.{length, getD, take, drop, length-append, List·getD-append}
-use lib.Pow.{pow-mono, pow-pos, suc-ones}
-use lib.Seq.{drop-append-seam, take-append-le, take-at, getD-drop}
+use lib.Pow.{pow-mono, suc-ones}
+use lib.Seq.{drop-append-seam, take-append-le, take-at, getD-drop, getD-take}
 use borrow.Author.Tests.{eqb-true, eq-eqb, ne-eqb}
 use Rattle.model.specs.Limits.{maxWindow}
-use Rattle.model.specs.Lists.{consIf, keep, flatMap, upFrom, ones}
+use Rattle.model.specs.Lists.{keep, flatMap, upFrom, ones}
 use Rattle.model.specs.Masks.{maskCount, group, groupsBelow, maskTable, groupStart}
 use Rattle.masks.proofs.Lists.{flatMap-append, upFrom-append, keep-below-from-one, length-keep-le, mem-of-keep, mem-keep, mem-of-upFrom, mem-upFrom, mem-getD, place, Rising, rising-upFrom, rising-keep, rising-at, rising-prefix}
 
@@ -27,7 +26,7 @@ pub ones-le : (n m : ℕ) → ones n m ≤ n
 ones-le zero m = omega arith
 ones-le (suc n) m = omega (arith, ones-le n (m / 2))
 
--- m is in the group of c ones just if it is a mask with c ones
+-- a number is in the group of c ones just if it is a mask with c ones
 pub mem-group : (c m : ℕ) → List·Memᴰ m (group c) ↔ ((m < maskCount) × (ones maxWindow m ≡ c))
 unfolding group
 mem-group c m = (
@@ -39,6 +38,10 @@ mem-group c m = (
 pub rising-group : (c : ℕ) → Rising 0 (group c)
 unfolding group
 rising-group c = rising-keep (λ m. eqb (ones maxWindow m) c) 0 (upFrom 0 maskCount) (rising-upFrom 0 maskCount)
+
+-- the masks of c ones below bit D
+abbrev pub groupBelow : ℕ → ℕ → List ℕ
+groupBelow D c = keep (λ m. ltb m (2 ^ D)) (group c)
 
 -- n groups more, and one
 groupsBelow-add : (c n : ℕ) → groupsBelow (c + n) ≡ groupsBelow c ++ flatMap group (upFrom c n)
@@ -121,12 +124,20 @@ module _ (c : ℕ) (h : c ≤ maxWindow) where
       (rising-at 0 (group c) (rising-group c) (i - groupStart c) (j - groupStart c) (omega arith) (offset j (omega arith) h₃))
 
   -- the masks of the group below bit D are its first ones
-  pub group-below : (D : ℕ) → take (length (keep (λ m. ltb m (2 ^ D)) (group c))) (drop (groupStart c) maskTable) ≡ keep (λ m. ltb m (2 ^ D)) (group c)
+  pub group-below : (D : ℕ) → take (length (groupBelow D c)) (drop (groupStart c) maskTable) ≡ groupBelow D c
   group-below D =
-      let f : ℕ → Bool = λ m. ltb m (2 ^ D) in
-      ap (take (length (keep f (group c)))) (drop-groups c h)
-      ∙ take-append-le (length (keep f (group c))) (group c) (groupsAfter c) (length-keep-le f (group c))
+      ap (take (length (groupBelow D c))) (drop-groups c h)
+      ∙ take-append-le (length (groupBelow D c)) (group c) (groupsAfter c) (length-keep-le (λ m. ltb m (2 ^ D)) (group c))
       ∙ rising-prefix (2 ^ D) 0 (group c) (rising-group c)
+
+  pub getD-group-below : (D k : ℕ) → k < length (groupBelow D c) → getD maskTable (groupStart c + k) 0 ≡ getD (groupBelow D c) k 0
+  getD-group-below D k h₁ =
+      sym (getD-drop (groupStart c) maskTable k 0)
+      ∙ sym (getD-take (length (groupBelow D c)) (drop (groupStart c) maskTable) k 0 h₁)
+      ∙ ap (λ l. getD l k 0) (group-below D)
+
+  pub group-below-le : (D : ℕ) → groupStart c + length (groupBelow D c) ≤ groupStart (suc c)
+  group-below-le D = omega (arith, groupStart-suc c, length-keep-le (λ m. ltb m (2 ^ D)) (group c))
 
 -- every mask is in the table, between the bounds of its group
 pub in-table : (m : ℕ) → m < maskCount
@@ -138,7 +149,7 @@ in-table m h =
 
 -- the masks of c ones below bit D, as they are listed from 1 up
 pub group-below-from-one : (c D : ℕ) → 1 ≤ c → D ≤ maxWindow
-    → keep (λ m. eqb (ones maxWindow m) c) (upFrom 1 (2 ^ D - 1)) ≡ keep (λ m. ltb m (2 ^ D)) (group c)
+    → keep (λ m. eqb (ones maxWindow m) c) (upFrom 1 (2 ^ D - 1)) ≡ groupBelow D c
 unfolding group
 group-below-from-one c D h h′ =
     keep-below-from-one (λ m. eqb (ones maxWindow m) c) (2 ^ D - 1) maskCount (omega (arith, suc-ones D, pow-mono h′))

@@ -1,10 +1,10 @@
 -- Laws of keep, flatMap and upFrom, for any lists.
 -- Assumes nothing.
-use mathlib.Core.Path.{_≡_, refl, sym, _∙_, ap, ap₂}
-use mathlib.Core.Logic.{_⊎_, inl, inr, ⊎-elim, _↔_}
+use mathlib.Core.Path.{_≡_, refl, sym, _∙_, ap, ap₂, subst}
+use mathlib.Core.Logic.{⊎-elim}
 use mathlib.Core.Bool.{Bool, true, false, _&&_, false≢true, and-comm}
-use mathlib.Core.List.{List, [], _∷_, _++_, map, append-assoc, append-nil, List·Memᴰ, List·Memᴰ·head, List·Memᴰ·tail, List·Memᴰ·not-nil, List·Memᴰ·cases-cons, Memᴰ·cast}
-use Prim.Native.Nat.{ℕ, zero, suc, _+_, _-_, _<_, _≤_, zero-le}
+use mathlib.Core.List.{List, [], _∷_, _++_, map, append-assoc, append-nil, List·Memᴰ, List·Memᴰ·head, List·Memᴰ·tail, List·Memᴰ·not-nil, List·Memᴰ·cases-cons, List·Memᴰ·append-cases, Memᴰ·cast, Memᴰ·append-left, Memᴰ·append-right}
+use Prim.Native.Nat.{ℕ, zero, suc, _+_, _-_, _<_, _≤_}
 use native.Mathlib.Nat.{zero-add, add-zero, suc-add, add-suc, add-sub-of-le, le-of-suc-le-suc, not-suc-le-zero}
 use native.Mathlib.Omega.{arith}
 use lib.Dec.{ltb}
@@ -95,6 +95,18 @@ module _ {ℓ κ} {A : Type ℓ} {B : Type κ} where
   pub flatMap-append : (f : A → List B) (l l′ : List A) → flatMap f (l ++ l′) ≡ flatMap f l ++ flatMap f l′
   flatMap-append f [] l′ = refl
   flatMap-append f (x ∷ l) l′ = ap (λ k. f x ++ k) (flatMap-append f l l′) ∙ sym (append-assoc (f x) (flatMap f l) (flatMap f l′))
+
+  -- what is in the list of an element
+  pub mem-of-flatMap : (f : A → List B) (l : List A) {b : B} → List·Memᴰ b (flatMap f l) → (a : A) × List·Memᴰ a l × List·Memᴰ b (f a)
+  mem-of-flatMap f [] m = absurd (List·Memᴰ·not-nil m)
+  mem-of-flatMap f (x ∷ l) m =
+      ⊎-elim (λ h. (x, List·Memᴰ·head refl, h)) (λ h. let r = mem-of-flatMap f l h in (r .0, List·Memᴰ·tail (r .1), r .2))
+      (List·Memᴰ·append-cases (f x) m)
+
+  pub mem-flatMap : (f : A → List B) {l : List A} {a : A} {b : B} → List·Memᴰ a l → List·Memᴰ b (f a) → List·Memᴰ b (flatMap f l)
+  mem-flatMap f {b = b} (List·Memᴰ·head {xs = xs} p) m =
+      Memᴰ·append-left (flatMap f xs) (subst (λ y. List·Memᴰ b (f y)) p m)
+  mem-flatMap f (List·Memᴰ·tail {x = x} m) m′ = Memᴰ·append-right (f x) (mem-flatMap f m m′)
 
 pub length-upFrom : (k n : ℕ) → length (upFrom k n) ≡ n
 length-upFrom k zero = refl

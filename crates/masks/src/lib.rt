@@ -7,6 +7,31 @@ ghost use Rattle.model.specs.Limits.{maxWindow};
 ghost use Rattle.model.specs.Lists.{keep};
 ghost use Rattle.model.specs.Masks.{maskCount, maskTable, group, groupStart};
 
+// The mask at place i of the table.
+pub fn mask(i: usize) -> u8
+    requires { ⌜ i < maskCount ⌝ }
+    ensures { λ r. ⌜ r ≡ getD maskTable i 0 ⌝ }
+{
+    MASKS[i]
+}
+
+// Where the group of c ones starts.
+pub fn group_start(c: usize) -> usize
+    requires { ⌜ c ≤ suc maxWindow ⌝ }
+    ensures { λ r. ⌜ r ≡ groupStart c ⌝ }
+{
+    STARTS[c]
+}
+
+// Where the part of the group of c ones that lies below bit `window` ends.
+pub fn group_end(c: usize, window: usize) -> usize
+    requires { ⌜ (c ≤ maxWindow) × (window ≤ maxWindow) ⌝ }
+    ensures { λ r. ⌜ r ≡ groupStart c + length (keep (λ m. ltb m (2 ^ window)) (group c)) ⌝ }
+{
+    let row = ENDS[c];
+    row[window]
+}
+
 // All 256 masks, grouped by their count of ones, upward in each group.
 const MASKS: [u8; 256] = [
     0,
@@ -282,28 +307,3 @@ const ENDS: [[usize; 9]; 9] = [
     [247, 247, 247, 247, 247, 247, 247, 248, 255],
     [255, 255, 255, 255, 255, 255, 255, 255, 256],
 ];
-
-// The mask at place i of the table.
-pub fn mask(i: usize) -> u8
-    requires { ⌜ i < maskCount ⌝ }
-    ensures { λ r. ⌜ r ≡ getD maskTable i 0 ⌝ }
-{
-    MASKS[i]
-}
-
-// Where the group of c ones starts.
-pub fn group_start(c: usize) -> usize
-    requires { ⌜ c ≤ suc maxWindow ⌝ }
-    ensures { λ r. ⌜ r ≡ groupStart c ⌝ }
-{
-    STARTS[c]
-}
-
-// Where the part of the group of c ones that lies below bit `window` ends.
-pub fn group_end(c: usize, window: usize) -> usize
-    requires { ⌜ (c ≤ maxWindow) × (window ≤ maxWindow) ⌝ }
-    ensures { λ r. ⌜ r ≡ groupStart c + length (keep (λ m. ltb m (2 ^ window)) (group c)) ⌝ }
-{
-    let row = ENDS[c];
-    row[window]
-}

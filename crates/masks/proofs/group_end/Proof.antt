@@ -2,13 +2,13 @@
 -- Assumes nothing.
 use mathlib.Core.Path.{_∙_, ap}
 use mathlib.Core.List.{List, [], map}
-use Prim.Native.Nat.{ℕ, suc, _+_, _^_}
-use lib.Dec.{ltb}
+use Prim.Native.Nat.{ℕ, suc, _+_}
 use lib.ListN.{length, getD}
 use borrow.Author.Needs.{needs}
 use Rattle.model.specs.Limits.{maxWindow}
-use Rattle.model.specs.Lists.{keep, upFrom}
+use Rattle.model.specs.Lists.{upFrom}
 use Rattle.model.specs.Masks.{group, groupsBelow, groupStart}
+use Rattle.masks.proofs.Groups.{groupBelow}
 use Rattle.masks.proofs.Lists.{getD-table}
 use Rattle.masks.proofs.group_end.Statement.{statement}
 use Rattle.masks.proofs.group_end.Tie as tie
@@ -26,7 +26,7 @@ array-read-result : tie.Need-array-read-result
 array-read-result c = search needs
 
 groupEnd : ℕ → ℕ → ℕ
-groupEnd c D = groupStart c + length (keep (λ m. ltb m (2 ^ D)) (group c))
+groupEnd c D = groupStart c + length (groupBelow D c)
 
 row : ℕ → List ℕ
 row c = map (groupEnd c) (upFrom 0 (suc maxWindow))
