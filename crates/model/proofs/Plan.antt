@@ -2,16 +2,17 @@
 -- Assumes nothing.
 use mathlib.Core.Path.{_≡_, refl, sym, ap, _∙_, subst}
 use mathlib.Core.Bool.{Bool, true, false, cond, not, _&&_, _||_, false≢true}
-use mathlib.Core.List.{List, [], _∷_}
+use mathlib.Core.List.{List, [], _∷_, _++_}
 use Prim.Native.Nat.{ℕ, zero, suc, _+_, _-_, _^_, _≤_, _<_, suc-le-suc}
 use native.Mathlib.Nat.{le-of-suc-le-suc, not-suc-le-zero}
 use native.Mathlib.Numerals.{add-one}
 use native.Mathlib.Omega.{arith}
-use borrow.Author.Tests.{ltb-true, ltb-false}
+use borrow.Author.Tests.{ltb-true, ltb-false, leb-true}
 use lib.Dec.{T, eqb, ltb, leb}
 use lib.ListN.{length, getD, drop, length-drop}
 use lib.Seq.{drop-cons, drop-drop, getD-drop}
-use Rattle.model.specs.Plan.{Reading, PlanAnswer, readCommands, readFrom, refusedOr, fault, after, width, atEnd, mayFollow, inRange, arcInRange, pairRises, unknown}
+use Rattle.model.specs.Plan.{Arc, Reading, PlanAnswer, readCommands, readFrom, refusedOr, fault, after, width, atEnd, mayFollow, inRange, arcInRange, pairRises, rising, pairBelow, unknown, isZero}
+use Rattle.model.specs.Limits.{maxTasks, maxStates}
 use Rattle.model.specs.Refusals.{bytesEnd, unknownCommand, outOfPlace, outOfRange}
 
 pub both : (a b : Bool) → (a && b) ≡ true → (a ≡ true) × (b ≡ true)
@@ -70,11 +71,10 @@ readFrom-at s at r h =
     cc (readFrom-cons (getD s at 0) (drop (suc at) s) r, ap length e)
 
 -- what a command without a fault is
-pub record Passes (r : Reading) (left c x y z : ℕ) : Type 0 where
+pub record Passes (r : Reading) (c x y z : ℕ) : Type 0 where
   pub going : r .ended ≡ false
   pub known : unknown c ≡ false
   pub follows : mayFollow r c ≡ true
-  pub whole : width c ≤ left
   pub ranged : inRange r c x y z ≡ true
   pub rises : pairRises r c x y ≡ true
 
@@ -105,11 +105,11 @@ module _ (r : Reading) (left c x y z : ℕ) where
   unfolding fault
   fault-is e u f s g p = λ i. firstFault (e i) (u i) (f i) (s i) (g i) (p i)
 
-  pub fault-none : fault r left c x y z ≡ 0 → Passes r left c x y z
+  pub fault-none : fault r left c x y z ≡ 0 → Passes r c x y z × (width c ≤ left)
   unfolding fault
   fault-none h =
       let t = none-fails (r .ended) (unknown c) (mayFollow r c) (ltb left (width c)) (inRange r c x y z) (pairRises r c x y) h in
-      record { going = t .0; known = t .1; follows = t .2; whole = ltb-false _ _ (t .3); ranged = t .4; rises = t .5 }
+      (record { going = t .0; known = t .1; follows = t .2; ranged = t .4; rises = t .5 }, ltb-false _ _ (t .3))
 
 -- an arc in range
 pub arc-ranged : (r : Reading) (c s l t : ℕ) → c ≡ 4 → inRange r c s l t ≡ true → (s < r .states) × (l < 2 ^ length (r .tasks)) × (t < r .states)
@@ -119,3 +119,21 @@ arc-ranged r c s l t e h =
     let two = both _ _ all in
     let one = both _ _ (two .0) in
     (ltb-true _ _ (one .0), ltb-true _ _ (one .1), ltb-true _ _ (two .1))
+
+-- a task may follow where there is room for it
+pub task-follows : (r : Reading) (c : ℕ) → c ≡ 1 → mayFollow r c ≡ true → length (r .tasks) < maxTasks
+unfolding mayFollow
+task-follows r c e h =
+    ltb-true _ _ (both (isZero (r .policy)) (ltb (length (r .tasks)) maxTasks) (simp e at h) .1)
+
+-- a number of states in range
+pub states-ranged : (r : Reading) (c m y z : ℕ) → c ≡ 3 → inRange r c m y z ≡ true → m ≤ maxStates
+unfolding inRange
+states-ranged r c m y z e h =
+    leb-true _ _ (both (leb 1 m) (leb m maxStates) (simp e at h) .1)
+
+-- the last arc decides whether a pair rises
+pub rising-last : (as′ : List Arc) (a : Arc) (s l : ℕ) → rising (as′ ++ (a ∷ [])) s l ≡ pairBelow a s l
+rising-last [] a s l = refl
+rising-last (b ∷ []) a s l = refl
+rising-last (b ∷ d ∷ as′) a s l = rising-last (d ∷ as′) a s l

@@ -1,6 +1,6 @@
 -- What the reader's structs and enums stand for.
 use mathlib.Core.Path.{_≡_}
-use mathlib.Core.Bool.{Bool}
+use mathlib.Core.Bool.{Bool, false}
 use mathlib.Core.List.{List, [], _∷_, _++_, map}
 use Prim.Native.Nat.{ℕ, zero, suc, _+_, _*_, _/_, _%_, _^_, _<_, _≤_}
 use lib.Dec.{leb}
@@ -58,22 +58,68 @@ arcsIn next = arcsBelow next pairCount
 abbrev pub planOf : Plan → model.Plan
 planOf p = record { tasks = tasksOf (p .tasks) (p .count); policy = p .policy; states = p .states; arcs = arcsIn (p .next) }
 
-abbrev pub answerWith : Outcome → Plan → model.PlanAnswer
-answerWith Sound p = model.sound (planOf p)
-answerWith (Faulty f) p = model.faulty (faultNumber f)
-
-abbrev pub answerOf : PlanRead → model.PlanAnswer
-answerOf r = answerWith (r .outcome) (r .plan)
-
 -- the reading, with the arcs that stand beside it in the table
 abbrev pub readingOf : Reading → List model.Arc → model.Reading
 readingOf r arcs = record { tasks = tasksOf (r .tasks) (r .count); policy = r .policy; states = r .states; arcs = arcs; ended = r .ended }
 
--- there is room for the tasks
+abbrev pub nothingReadWith : List model.Arc → model.Reading
+nothingReadWith arcs = record { tasks = []; policy = 0; states = 0; arcs = arcs; ended = false }
+
+-- the answer of an outcome, where a plan without a fault is this one
+abbrev pub answerWith : Outcome → model.Plan → model.PlanAnswer
+answerWith Sound P = model.sound P
+answerWith (Faulty f) P = model.faulty (faultNumber f)
+
+-- what the reader answers
+abbrev pub answerOf : PlanRead → model.PlanAnswer
+answerOf a = answerWith (a .outcome) (planOf (a .plan))
+
+abbrev pub planRead : model.Reading → model.Plan
+planRead r = record { tasks = r .tasks; policy = r .policy; states = r .states; arcs = r .arcs }
+
+-- the counts are within their limits
 pub record Within (r : Reading) : Type 0 where
   pub fits : r .count ≤ maxTasks
   pub room : length (r .tasks) ≡ maxTasks
+  pub states : r .states ≤ maxStates
 
 -- a pair rises above the arcs exactly from the least one on
 pub record Least (arcs : List model.Arc) (least : ℕ) : Type 0 where
   pub law : (s l : ℕ) → l < labelCount → model.rising arcs s l ≡ leb least (s * labelCount + l)
+
+-- the table has no arc from the least pair on, and one just below it
+pub record Holds (next : List ℕ) (least : ℕ) : Type 0 where
+  pub size : length next ≡ pairCount
+  pub within : least ≤ pairCount
+  pub above : (k : ℕ) → least ≤ k → getD next k 0 ≡ 0
+  pub below : (m : ℕ) → least ≡ suc m → getD next m 0 ≡ 0 → ⊥
+
+-- a command c that may be read, with its first operand
+pub record Readable (r : Reading) (c x : ℕ) : Type 0 where
+  pub within : Within r
+  pub going : r .ended ≡ false
+  pub known : model.unknown c ≡ false
+  pub room : c ≡ 1 → r .count < maxTasks
+  pub states : c ≡ 3 → x ≤ maxStates
+
+-- an arc that may be read
+pub record ReadableArc (r : Reading) (next : List ℕ) (s l t : ℕ) : Type 0 where
+  pub within : Within r
+  pub going : r .ended ≡ false
+  pub holds : Holds next (r .least)
+  pub from : s < maxStates
+  pub label : l < labelCount
+  pub to : t < maxStates
+  pub rises : r .least ≤ s * labelCount + l
+
+-- the reading n and the table after a command are those before it with the command read
+pub record Reads (r n : Reading) (before after : List ℕ) (c x y z : ℕ) : Type 0 where
+  pub within : Within n
+  pub holds : Holds after (n .least)
+  pub reading : readingOf n (arcsIn after) ≡ model.after (readingOf r (arcsIn before)) c x y z
+
+-- the same for a command that leaves the table as it is
+pub record ReadsAside (r n : Reading) (c x y z : ℕ) : Type 0 where
+  pub within : Within n
+  pub least : n .least ≡ r .least
+  pub reading : (arcs : List model.Arc) → readingOf n arcs ≡ model.after (readingOf r arcs) c x y z

@@ -5,7 +5,7 @@ ghost use mathlib.Core.List.{List};
 ghost use lib.ListN.{length, getD, drop};
 ghost use Rattle.model.specs.Plan.{Arc, width, mayFollow, between, taskInRange, arcInRange, inRange, pairRises, fault, after, readPlan};
 ghost use Rattle.model.specs.Limits.{maxTasks};
-ghost use Rattle.plan.specs.View.{faultNumber, checkNumber, answerOf, readingOf, arcsIn, labelCount, Within, Least};
+ghost use Rattle.plan.specs.View.{faultNumber, checkNumber, answerOf, answerWith, planRead, readingOf, nothingReadWith, arcsIn, labelCount, Within, Least, Holds, Readable, ReadableArc, Reads, ReadsAside};
 
 const MAX_TASKS: usize = 4;
 
@@ -204,4 +204,123 @@ fn fault_of(r: Reading, left: usize, c: u8, x: u8, y: u8, z: u8) -> Outcome
         return Outcome::Faulty(Fault::OutOfPlace);
     }
     Outcome::Sound
+}
+
+// One more task.
+fn with_task(r: Reading, c: u8, d: u8, v: u8) -> Reading
+    requires { ⌜ Readable r 1 c ⌝ }
+    ensures { λ n. ⌜ ReadsAside r n 1 c d v ⌝ }
+{
+    let at = r.count;
+    let mut n = r;
+    n.tasks[at] = Task {
+        work: c,
+        window: d,
+        value: v,
+    };
+    n.count = at + 1;
+    n
+}
+
+// What is read once a command that is no arc is.
+fn with_command(r: Reading, c: u8, x: u8, y: u8, z: u8) -> Reading
+    requires { ⌜ Readable r c x × (c ≡ 4 → ⊥) ⌝ }
+    ensures { λ n. ⌜ ReadsAside r n c x y z ⌝ }
+{
+    if c == 1 {
+        return with_task(r, x, y, z);
+    }
+    let mut n = r;
+    if c == 2 {
+        n.policy = x;
+        return n;
+    }
+    if c == 3 {
+        n.states = x;
+        return n;
+    }
+    n.ended = true;
+    n
+}
+
+// One more arc, which goes into the table.
+fn with_arc(r: Reading, next: &mut [u8; 256], s: u8, l: u8, t: u8) -> Reading
+    requires { ⌜ ReadableArc r (now next) s l t ⌝ }
+    ensures { λ n. ⌜ Reads r n (now (next .entry)) (now (next .exit)) 4 s l t ⌝ }
+{
+    let at = pair(s, l);
+    next[at] = t + 1;
+    let mut n = r;
+    n.least = at + 1;
+    n
+}
+
+// What is read once a command without a fault is.
+fn with_next(r: Reading, next: &mut [u8; 256], c: u8, x: u8, y: u8, z: u8) -> Reading
+    requires { ⌜ Readable r c x × Holds (now next) (r .least) × (c ≡ 4 → ReadableArc r (now next) x y z) ⌝ }
+    ensures { λ n. ⌜ Reads r n (now (next .entry)) (now (next .exit)) c x y z ⌝ }
+{
+    if c == 4 {
+        return with_arc(r, next, x, y, z);
+    }
+    with_command(r, c, x, y, z)
+}
+
+// The reading before the first command.
+fn nothing_read() -> Reading
+    ensures { λ r. ⌜ Within r × (r .least ≡ 0) × ((arcs : List Arc) → readingOf r arcs ≡ nothingReadWith arcs) ⌝ }
+{
+    let none = Task {
+        work: 0,
+        window: 0,
+        value: 0,
+    };
+    Reading {
+        tasks: [none; 4],
+        count: 0,
+        policy: 0,
+        states: 0,
+        least: 0,
+        ended: false,
+    }
+}
+
+// The answer, with the plan that has been read.
+fn answer(outcome: Outcome, r: Reading, next: [u8; 256]) -> PlanRead
+    ensures { λ a. ⌜ answerOf a ≡ answerWith outcome (planRead (readingOf r (arcsIn next))) ⌝ }
+{
+    let tasks = r.tasks;
+    let plan = Plan {
+        tasks,
+        count: r.count,
+        policy: r.policy,
+        states: r.states,
+        next,
+    };
+    PlanRead { outcome, plan }
+}
+
+// The plan that the bytes are, or their first fault.
+pub fn read(s: &[u8]) -> PlanRead
+    ensures { λ a. ⌜ answerOf a ≡ readPlan (now (s .entry)) ⌝ }
+{
+    let mut next = [0u8; 256];
+    let mut r = nothing_read();
+    let mut at = 0;
+    while at < s.len() {
+        let c = s[at];
+        let x = byte_at(s, at + 1);
+        let y = byte_at(s, at + 2);
+        let z = byte_at(s, at + 3);
+        let outcome = fault_of(r, s.len() - at, c, x, y, z);
+        if let Outcome::Faulty(_) = outcome {
+            return answer(outcome, r, next);
+        }
+        r = with_next(r, &mut next, c, x, y, z);
+        at += width_of(c);
+    }
+    if r.ended {
+        return answer(Outcome::Sound, r, next);
+    }
+    answer(Outcome::Faulty(Fault::BytesEnd), r, next)
 }

@@ -1,0 +1,74 @@
+-- `plan::with_command` meets its contract: each command sets what the definition says.
+-- Assumes nothing.
+use mathlib.Core.Path.{_≡_, refl, sym, ap, _∙_, subst}
+use mathlib.Core.Bool.{Bool, true, false, not}
+use borrow.Author.Needs.{needs}
+use borrow.Author.Tests.{not-false, leb-true}
+use Prim.Native.Nat.{ℕ, _≤_}
+use native.Mathlib.Omega.{arith}
+use lib.Dec.{leb}
+use Rattle.model.specs.Limits.{maxStates}
+use Rattle.model.specs.Plan.{after, unknown}
+use Rattle.model.proofs.Plan.{both}
+use Rattle.plan.specs.declared.Reading.{Reading}
+use Rattle.plan.specs.View.{tasksOf, Within, Readable, ReadsAside}
+use Rattle.plan.proofs.with_command.Statement.{statement}
+use Rattle.plan.proofs.with_command.Tie as tie
+
+-- what each command but a task sets
+module _ (r : Reading) (x y z : ℕ) (within : Within r) where
+  policy-read : r .ended ≡ false →
+      ReadsAside r (record { tasks = r .tasks; count = r .count; policy = x; states = r .states; least = r .least; ended = r .ended }) 2 x y z
+  unfolding after
+  policy-read e = record {
+    within = record { fits = within .fits; room = within .room; states = within .states };
+    least = refl;
+    reading = λ arcs i. record { tasks = tasksOf (r .tasks) (r .count); policy = x; states = r .states; arcs = arcs; ended = e i };
+  }
+
+  states-read : r .ended ≡ false → x ≤ maxStates →
+      ReadsAside r (record { tasks = r .tasks; count = r .count; policy = r .policy; states = x; least = r .least; ended = r .ended }) 3 x y z
+  unfolding after
+  states-read e m = record {
+    within = record { fits = within .fits; room = within .room; states = m };
+    least = refl;
+    reading = λ arcs i. record { tasks = tasksOf (r .tasks) (r .count); policy = r .policy; states = x; arcs = arcs; ended = e i };
+  }
+
+  end-read : ReadsAside r (record { tasks = r .tasks; count = r .count; policy = r .policy; states = r .states; least = r .least; ended = true }) 5 x y z
+  unfolding after
+  end-read = record {
+    within = record { fits = within .fits; room = within .room; states = within .states };
+    least = refl;
+    reading = λ arcs. refl;
+  }
+
+-- the last command left is the end
+end-left : (c : ℕ) → unknown c ≡ false → (c ≡ 1 → ⊥) → (c ≡ 2 → ⊥) → (c ≡ 3 → ⊥) → (c ≡ 4 → ⊥) → c ≡ 5
+end-left c h a b d e =
+    let t : (leb 1 c ≡ true) × (leb c 5 ≡ true) = both _ _ (not-false _ h) in
+    omega (arith, leb-true 1 c (t .0), leb-true c 5 (t .1))
+
+with-task-requires : tie.Need-with-task-requires
+with-task-requires c κs = subst (λ (k : ℕ). Readable (c .before .args .r) k (c .before .args .x)) (c .if1 .taken) (c .before .pre .0)
+
+returns : tie.Need-returns
+returns c = rw (c .before .if1 .taken) (c .with-task .ensures)
+
+returns-2 : tie.Need-returns-2
+returns-2 c =
+    let p = c .before .before .pre .0 in
+    rw (c .if2 .taken) (policy-read _ _ _ _ (p .within) (p .going))
+
+returns-3 : tie.Need-returns-3
+returns-3 c =
+    let p = c .before .before .before .pre .0 in
+    rw (c .if3 .taken) (states-read _ _ _ _ (p .within) (p .going) (p .states (c .if3 .taken)))
+
+returns-4 : tie.Need-returns-4
+returns-4 c =
+    let p = c .before .before .before .pre in
+    rw (end-left _ (p .0 .known) (c .before .before .if1 .left) (c .before .if2 .left) (c .if3 .left) (p .1)) (end-read _ _ _ _ (p .0 .within))
+
+pub with-command-spec : {M : Type 1} → statement M
+with-command-spec = tie.close (tie.spec with-task-requires returns returns-2 returns-3 returns-4)

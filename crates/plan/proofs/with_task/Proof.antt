@@ -1,0 +1,49 @@
+-- `plan::with_task` meets its contract: the store is at the end of the tasks given.
+-- Assumes nothing.
+use mathlib.Core.Path.{_≡_, refl, ap, _∙_}
+use mathlib.Core.List.{List, [], _∷_, _++_, map, map-append}
+use borrow.Author.Needs.{needs}
+use Prim.Native.Nat.{ℕ, suc, _+_, _<_}
+use native.Mathlib.Numerals.{add-one}
+use native.Mathlib.Omega.{arith}
+use lib.ListN.{length, set, take, length-set}
+use lib.Seq.{take-suc-set}
+use Rattle.model.specs.Plan.{after}
+use Rattle.plan.specs.declared.Task.{Task}
+use Rattle.plan.specs.View.{taskOf, tasksOf}
+use Rattle.plan.proofs.with_task.Statement.{statement}
+use Rattle.plan.proofs.with_task.Tie as tie
+
+-- the tasks given, with one stored after them
+task-added : (ts : List Task) (n : ℕ) (t : Task) → n < length ts → tasksOf (set ts n t) (n + 1) ≡ tasksOf ts n ++ (taskOf t ∷ [])
+task-added ts n t h =
+    ap (tasksOf (set ts n t)) (add-one n) ∙ ap (map taskOf) (take-suc-set ts n t h) ∙ map-append taskOf (take n ts) (t ∷ [])
+
+room : (c : tie.Start) → c .args .r .count < length (c .args .r .tasks)
+room c = omega (arith, c .pre .room refl, c .pre .within .room)
+
+mul-t8 : tie.Need-mul-t8
+mul-t8 c = search needs
+
+element-set-from-n : tie.Need-element-set-from-n
+element-set-from-n c = c .pre .room refl
+
+add-n : tie.Need-add-n
+add-n c = search needs
+
+returns : tie.Need-returns
+unfolding after
+returns c = record {
+  within = record { fits = omega (arith, c .pre .room refl); room = length-set (c .args .r .tasks) (c .args .r .count) _ ∙ c .pre .within .room; states = c .pre .within .states };
+  least = refl;
+  reading = λ arcs i. record {
+    tasks = task-added (c .args .r .tasks) (c .args .r .count) (record { work = c .args .c; window = c .args .d; value = c .args .v }) (room c) i;
+    policy = c .args .r .policy;
+    states = c .args .r .states;
+    arcs = arcs;
+    ended = c .pre .going i;
+  };
+}
+
+pub with-task-spec : {M : Type 1} → statement M
+with-task-spec = tie.close (tie.spec mul-t8 element-set-from-n add-n returns)
