@@ -11,7 +11,7 @@ use borrow.Author.Tests.{ltb-true, ltb-false, leb-true}
 use lib.Dec.{T, eqb, ltb, leb}
 use lib.ListN.{length, getD, drop, length-drop}
 use lib.Seq.{drop-cons, drop-drop, getD-drop}
-use Rattle.model.specs.Plan.{Arc, Reading, PlanAnswer, readCommands, readFrom, refusedOr, fault, after, width, atEnd, mayFollow, inRange, arcInRange, pairRises, rising, pairBelow, unknown, isZero}
+use Rattle.model.specs.Plan.{Arc, Reading, PlanAnswer, readCommands, readFrom, refusedOr, firstFault, fault, after, width, atEnd, mayFollow, inRange, arcInRange, pairRises, rising, pairBelow, unknown, isZero}
 use Rattle.model.specs.Limits.{maxTasks, maxStates}
 use Rattle.model.specs.Refusals.{bytesEnd, unknownCommand, outOfPlace, outOfRange}
 
@@ -78,19 +78,9 @@ pub record Passes (r : Reading) (c x y z : ℕ) : Type 0 where
   pub ranged : inRange r c x y z ≡ true
   pub rises : pairRises r c x y ≡ true
 
--- the first of the tests that fails, by the tests' results
-abbrev pub firstFault : Bool → Bool → Bool → Bool → Bool → Bool → ℕ
-firstFault ended unknown follows short ranged rises =
-    cond ended outOfPlace
-    (cond unknown unknownCommand
-    (cond (not follows) outOfPlace
-    (cond short bytesEnd
-    (cond (not ranged) outOfRange
-    (cond (not rises) outOfPlace
-    0)))))
-
 none-fails : (e u f s g p : Bool) → firstFault e u f s g p ≡ 0 →
     (e ≡ false) × (u ≡ false) × (f ≡ true) × (s ≡ false) × (g ≡ true) × (p ≡ true)
+unfolding firstFault
 none-fails true u f s g p h = absurd (omega arith)
 none-fails false true f s g p h = absurd (omega arith)
 none-fails false false false s g p h = absurd (omega arith)
@@ -99,12 +89,12 @@ none-fails false false true false false p h = absurd (omega arith)
 none-fails false false true false true false h = absurd (omega arith)
 none-fails false false true false true true h = (refl, refl, refl, refl, refl, refl)
 
-module _ (r : Reading) (left c x y z : ℕ) where
-  pub fault-is : {e u f s g p : Bool} → r .ended ≡ e → unknown c ≡ u → mayFollow r c ≡ f → ltb left (width c) ≡ s →
-      inRange r c x y z ≡ g → pairRises r c x y ≡ p → fault r left c x y z ≡ firstFault e u f s g p
-  unfolding fault
-  fault-is e u f s g p = λ i. firstFault (e i) (u i) (f i) (s i) (g i) (p i)
+-- an operand out of range is told before pairs are compared
+pub ranged-first : (e u f s p p′ : Bool) → firstFault e u f s false p ≡ firstFault e u f s false p′
+unfolding firstFault
+ranged-first e u f s p p′ = refl
 
+module _ (r : Reading) (left c x y z : ℕ) where
   pub fault-none : fault r left c x y z ≡ 0 → Passes r c x y z × (width c ≤ left)
   unfolding fault
   fault-none h =

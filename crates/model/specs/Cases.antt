@@ -7,7 +7,7 @@ use lib.IntN.{ℤ, pos, negsuc}
 use Rattle.model.specs.Limits.{workRoom, traceRoom}
 use Rattle.model.specs.Lists.{flatMap, upFrom}
 use Rattle.model.specs.Bytes.{number, signed}
-use Rattle.model.specs.Plan.{readPlan, readFrom, fault, after, width, mayFollow, inRange, taskInRange, arcInRange}
+use Rattle.model.specs.Plan.{readPlan, readFrom, firstFault, fault, after, width, mayFollow, inRange, taskInRange, arcInRange}
 use Rattle.model.specs.Slot.{Done, slot, ready, first, key}
 use Rattle.model.specs.Masks.{masksOf}
 use Rattle.model.specs.Graph.{choices, edgeOf, edgesAt, edges, explored, nodes, tooLarge}
@@ -108,5 +108,5 @@ cases =
 
 -- the definitions give every case its output
 pub marked : map (λ c. outcome (c .input)) cases ≡ map (λ c. c .output) cases
-unfolding number signed readPlan readFrom fault after width mayFollow inRange taskInRange arcInRange slot ready first key masksOf choices edgeOf edgesAt edges explored nodes tooLarge readCertificate readPotentials readSteps check verdict fractionOk gcd potentialsOk cycleOk follow allowance thousandths trace traceRun
+unfolding number signed readPlan readFrom firstFault fault after width mayFollow inRange taskInRange arcInRange slot ready first key masksOf choices edgeOf edgesAt edges explored nodes tooLarge readCertificate readPotentials readSteps check verdict fractionOk gcd potentialsOk cycleOk follow allowance thousandths trace traceRun
 marked = refl

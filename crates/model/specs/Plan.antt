@@ -103,17 +103,22 @@ rising (a ∷ b ∷ as′) s l = rising (b ∷ as′) s l
 abbrev pub pairRises : Reading → ℕ → ℕ → ℕ → Bool
 pairRises r c s l = cond (eqb c 4) (rising (r .arcs) s l) true
 
--- The fault of the command c with operands x, y, z, where so many bytes are left from it on; 0 for none: "3 (a byte after `05`), 2,
--- 3 (may not follow, a fifth task), 1, 4, 3 (pairs) are tried in turn".
+-- The first fault by the tests' results, 0 for none: "3 (a byte after `05`), 2, 3 (may not follow, a fifth task), 1, 4, 3 (pairs)
+-- are tried in turn".
+unfoldable pub firstFault : (ended unknown follows short ranged rises : Bool) → ℕ
+firstFault ended unknown follows short ranged rises =
+    cond ended outOfPlace
+    (cond unknown unknownCommand
+    (cond (not follows) outOfPlace
+    (cond short bytesEnd
+    (cond (not ranged) outOfRange
+    (cond (not rises) outOfPlace
+    0)))))
+
+-- the fault of the command c with operands x, y, z, where so many bytes are left from it on
 unfoldable pub fault : Reading → ℕ → ℕ → ℕ → ℕ → ℕ → ℕ
 fault r left c x y z =
-    cond (r .ended) outOfPlace
-    (cond (unknown c) unknownCommand
-    (cond (not (mayFollow r c)) outOfPlace
-    (cond (ltb left (width c)) bytesEnd
-    (cond (not (inRange r c x y z)) outOfRange
-    (cond (not (pairRises r c x y)) outOfPlace
-    0)))))
+    firstFault (r .ended) (unknown c) (mayFollow r c) (ltb left (width c)) (inRange r c x y z) (pairRises r c x y)
 
 -- what is read once the command c with operands x, y, z is
 unfoldable pub after : Reading → ℕ → ℕ → ℕ → ℕ → Reading

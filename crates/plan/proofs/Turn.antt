@@ -50,14 +50,14 @@ empty-holds least e = record {
 }
 
 -- before the first command
-pub reached-start : (s : List ℕ) (r : Reading) → Within r → r .least ≡ 0 → ((arcs : List model.Arc) → readingOf r arcs ≡ nothingReadWith arcs) →
-    Reached s (zeros pairCount) r 0
+pub reached-start : (s next : List ℕ) (r : Reading) → next ≡ zeros pairCount → Within r → r .least ≡ 0 →
+    ((arcs : List model.Arc) → readingOf r arcs ≡ nothingReadWith arcs) → Reached s next r 0
 unfolding model.readPlan arcsIn
-reached-start s r w l e = record {
+reached-start s next r z w l e = record {
   inside = omega arith;
   within = w;
-  holds = empty-holds (r .least) l;
-  rest = ap (model.readFrom s) (sym (e (arcsBelow (zeros pairCount) pairCount) ∙ ap nothingReadWith (empty-table pairCount pairCount)));
+  holds = rw z (empty-holds (r .least) l);
+  rest = ap (model.readFrom s) (sym (e (arcsBelow next pairCount) ∙ ap nothingReadWith (rw z (empty-table pairCount pairCount))));
 }
 
 -- past the last command

@@ -2,10 +2,10 @@
 ghost use mathlib.Core.Path.{_≡_};
 ghost use Prim.Native.Nat.{ℕ, _+_, _*_, _^_, _<_, _≤_};
 ghost use mathlib.Core.List.{List};
-ghost use lib.ListN.{length, getD, drop};
-ghost use Rattle.model.specs.Plan.{Arc, width, mayFollow, between, taskInRange, arcInRange, inRange, pairRises, fault, after, readPlan};
+ghost use lib.ListN.{length, getD, replicate};
+ghost use Rattle.model.specs.Plan.{Arc, width, mayFollow, between, taskInRange, arcInRange, inRange, pairRises, firstFault, fault, after, readPlan};
 ghost use Rattle.model.specs.Limits.{maxTasks};
-ghost use Rattle.plan.specs.View.{faultNumber, checkNumber, answerOf, answerWith, planRead, readingOf, nothingReadWith, arcsIn, labelCount, Within, Least, Holds, Readable, ReadableArc, Reads, ReadsAside};
+ghost use Rattle.plan.specs.View.{faultNumber, checkNumber, answerOf, answerWith, planRead, readingOf, nothingReadWith, arcsIn, labelCount, pairCount, Within, Least, Holds, Readable, ReadableArc, Reads, ReadsAside};
 
 const MAX_TASKS: usize = 4;
 
@@ -180,30 +180,50 @@ fn pair_rises(r: Reading, c: u8, s: u8, l: u8) -> bool
     if c == 4 { r.least <= pair(s, l) } else { true }
 }
 
-// The fault of a command with `left` bytes from it on, tried in the order of the refusals.
+// The first fault by the tests' results.
+fn first_fault(
+    ended: bool,
+    unknown: bool,
+    follows: bool,
+    short: bool,
+    ranged: bool,
+    rises: bool,
+) -> Outcome
+    ensures { λ o. ⌜ checkNumber o ≡ firstFault ended unknown follows short ranged rises ⌝ }
+{
+    if ended {
+        return Outcome::Faulty(Fault::OutOfPlace);
+    }
+    if unknown {
+        return Outcome::Faulty(Fault::UnknownCommand);
+    }
+    if !follows {
+        return Outcome::Faulty(Fault::OutOfPlace);
+    }
+    if short {
+        return Outcome::Faulty(Fault::BytesEnd);
+    }
+    if !ranged {
+        return Outcome::Faulty(Fault::OutOfRange);
+    }
+    if !rises {
+        return Outcome::Faulty(Fault::OutOfPlace);
+    }
+    Outcome::Sound
+}
+
+// The fault of a command with `left` bytes from it on.
 fn fault_of(r: Reading, left: usize, c: u8, x: u8, y: u8, z: u8) -> Outcome
     requires { ⌜ Within r ⌝ }
     ensures { λ o. ⌜ ((arcs : List Arc) → Least arcs (r .least) → checkNumber o ≡ fault (readingOf r arcs) left c x y z) ⌝ }
 {
-    if r.ended {
-        return Outcome::Faulty(Fault::OutOfPlace);
-    }
-    if !up_to(c, 5) {
-        return Outcome::Faulty(Fault::UnknownCommand);
-    }
-    if !may_follow(r, c) {
-        return Outcome::Faulty(Fault::OutOfPlace);
-    }
-    if left < width_of(c) {
-        return Outcome::Faulty(Fault::BytesEnd);
-    }
-    if !in_range(r, c, x, y, z) {
-        return Outcome::Faulty(Fault::OutOfRange);
-    }
-    if !pair_rises(r, c, x, y) {
-        return Outcome::Faulty(Fault::OutOfPlace);
-    }
-    Outcome::Sound
+    let ended = r.ended;
+    let unknown = !up_to(c, 5);
+    let follows = may_follow(r, c);
+    let short = left < width_of(c);
+    let ranged = in_range(r, c, x, y, z);
+    let rises = pair_rises(r, c, x, y);
+    first_fault(ended, unknown, follows, short, ranged, rises)
 }
 
 // One more task.
@@ -300,11 +320,18 @@ fn answer(outcome: Outcome, r: Reading, next: [u8; 256]) -> PlanRead
     PlanRead { outcome, plan }
 }
 
+// A table without an arc.
+fn empty_table() -> [u8; 256]
+    ensures { λ r. ⌜ r ≡ replicate pairCount 0 ⌝ }
+{
+    [0; 256]
+}
+
 // The plan that the bytes are, or their first fault.
 pub fn read(s: &[u8]) -> PlanRead
     ensures { λ a. ⌜ answerOf a ≡ readPlan (now (s .entry)) ⌝ }
 {
-    let mut next = [0u8; 256];
+    let mut next = empty_table();
     let mut r = nothing_read();
     let mut at = 0;
     while at < s.len() {

@@ -1,116 +1,73 @@
--- `plan::fault_of` meets its contract: the tests are the definition's, in its order.
+-- `plan::fault_of` meets its contract: each test's result is the definition's; a pair's matters only where the operands are in range.
 -- Assumes nothing.
 use mathlib.Core.Path.{_≡_, refl, sym, _∙_, ap, subst}
 use mathlib.Core.Bool.{Bool, true, false, not}
 use mathlib.Core.List.{List}
 use borrow.Author.Needs.{needs}
-use borrow.Author.Tests.{lt-ltb, le-ltb, not-true, not-false}
-use Prim.Native.Nat.{ℕ, _<_, _≤_, _^_}
+use Prim.Native.Nat.{ℕ, _<_, _^_}
 use native.Mathlib.Nat.{lt-of-lt-of-le}
 use lib.Dec.{ltb}
-use lib.ListN.{length}
 use lib.Pow.{pow-mono}
-use Rattle.model.specs.Plan.{Arc, fault, mayFollow, unknown, width, inRange, pairRises}
-use Rattle.model.proofs.Plan.{firstFault, fault-is, arc-ranged}
-use Rattle.plan.specs.View.{readingOf, labelCount, Least}
+use Rattle.model.specs.Plan.{Arc, Reading, firstFault, fault, mayFollow, unknown, width, inRange, pairRises}
+use Rattle.model.proofs.Plan.{ranged-first, arc-ranged}
+use Rattle.plan.specs.declared.Reading as code
+use Rattle.plan.specs.View.{readingOf, labelCount, Within}
 use Rattle.plan.proofs.View.{task-count}
 use Rattle.plan.proofs.fault_of.Statement.{statement}
 use Rattle.plan.proofs.fault_of.Tie as tie
 
--- what the tests that were passed have shown
-known : (c : tie.Else2) → unknown (c .before .before .before .args .c) ≡ false
-known c = ap not (sym (c .before .up-to .ensures)) ∙ c .if2 .left
+-- an arc in range has a label of the table
+low : (r : code.Reading) (arcs : List Arc) (c x y z : ℕ) → Within r → inRange (readingOf r arcs) c x y z ≡ true → c ≡ 4 → y < labelCount
+low r arcs c x y z w h e =
+    lt-of-lt-of-le (subst (λ (n : ℕ). y < 2 ^ n) (task-count r w) (arc-ranged _ _ _ _ _ e h .1)) (pow-mono (w .fits))
 
-follows : (c : tie.Else3) (arcs : List Arc) →
-    mayFollow (readingOf (c .before .before .before .before .before .args .r) arcs) (c .before .before .before .before .before .args .c) ≡ true
-follows c arcs = sym (c .before .may-follow .ensures arcs) ∙ not-false _ (c .if3 .left)
-
-whole : (c : tie.Else4) →
-    ltb (c .before .before .before .before .before .before .before .args .left) (width (c .before .before .before .before .before .before .before .args .c)) ≡ false
-whole c = le-ltb _ _ (rw (c .before .width-of .ensures) at (c .if4 .left))
-
-returns : tie.Need-returns
-returns c arcs least = sym (fault-is _ _ _ _ _ _ (c .if1 .taken) refl refl refl refl refl)
+-- the fault by the tests' results
+by-results : (R : Reading) (left c x y z : ℕ) (u f s g p : Bool) → u ≡ unknown c → f ≡ mayFollow R c → s ≡ ltb left (width c) →
+    g ≡ inRange R c x y z → (inRange R c x y z ≡ true → p ≡ pairRises R c x y) → firstFault (R .ended) u f s g p ≡ fault R left c x y z
+unfolding fault
+by-results R left c x y z u f s false p eu ef es eg ep =
+    ranged-first (R .ended) u f s p (pairRises R c x y) ∙ (λ i. firstFault (R .ended) (eu i) (ef i) (es i) (eg i) (pairRises R c x y))
+by-results R left c x y z u f s true p eu ef es eg ep = λ i. firstFault (R .ended) (eu i) (ef i) (es i) (eg i) (ep (sym eg) i)
 
 up-to-requires : tie.Need-up-to-requires
 up-to-requires c κs = search needs
 
-returns-2 : tie.Need-returns-2
-returns-2 c arcs least = sym (fault-is _ _ _ _ _ _ (c .before .before .if1 .left) (ap not (sym (c .before .up-to .ensures)) ∙ c .if2 .taken) refl refl refl refl)
-
 may-follow-requires : tie.Need-may-follow-requires
 may-follow-requires c κs = search needs
-
-returns-3 : tie.Need-returns-3
-returns-3 c arcs least =
-    sym
-    (fault-is _ _ _ _ _ _ (c .before .before .before .before .if1 .left) (known (c .before .before))
-    (sym (c .before .may-follow .ensures arcs) ∙ not-true _ (c .if3 .taken)) refl refl refl)
 
 width-of-requires : tie.Need-width-of-requires
 width-of-requires c κs = search needs
 
-returns-4 : tie.Need-returns-4
-returns-4 c arcs least =
-    sym
-    (fault-is _ _ _ _ _ _ (c .before .before .before .before .before .before .if1 .left) (known (c .before .before .before .before))
-    (follows (c .before .before) arcs) (lt-ltb _ _ (rw (c .before .width-of .ensures) at (c .if4 .taken))) refl refl)
-
 in-range-requires : tie.Need-in-range-requires
 in-range-requires c κs = search needs
-
-returns-5 : tie.Need-returns-5
-returns-5 c arcs least =
-    sym
-    (fault-is _ _ _ _ _ _ (c .before .before .before .before .before .before .before .before .if1 .left) (known (c .before .before .before .before .before .before))
-    (follows (c .before .before .before .before) arcs) (whole (c .before .before)) (sym (c .before .in-range .ensures arcs) ∙ not-true _ (c .if5 .taken)) refl)
 
 pair-rises-requires : tie.Need-pair-rises-requires
 pair-rises-requires c κs = search needs
 
-abbrev entry : tie.After-pair-rises → tie.Start
-entry c = c .before .before .before .before .before .before .before .before .before .before
+first-fault-requires : tie.Need-first-fault-requires
+first-fault-requires c κs = search needs
 
--- where all tests but the last were passed, the last decides
-module _ (c : tie.After-pair-rises) (arcs : List Arc) where
-  ranged : inRange (readingOf (entry c .args .r) arcs) (entry c .args .c) (entry c .args .x) (entry c .args .y) (entry c .args .z) ≡ true
-  ranged = sym (c .before .before .in-range .ensures arcs) ∙ not-false _ (c .before .if5 .left)
-
-  low : entry c .args .c ≡ 4 → entry c .args .y < labelCount
-  low e =
-      let w = entry c .pre in
-      lt-of-lt-of-le
-      (subst (λ (n : ℕ). entry c .args .y < 2 ^ n) (task-count _ w) (arc-ranged _ _ _ _ _ e ranged .1))
-      (pow-mono (w .fits))
-
-  decided : {p : Bool} → Least arcs (entry c .args .r .least) → c .pair-rises .result ≡ p →
-      firstFault false false true false true p
-      ≡ fault (readingOf (entry c .args .r) arcs) (entry c .args .left) (entry c .args .c) (entry c .args .x) (entry c .args .y) (entry c .args .z)
-  decided least e =
-      sym
-      (fault-is _ _ _ _ _ _ (c .before .before .before .before .before .before .before .before .before .if1 .left)
-      (known (c .before .before .before .before .before .before .before)) (follows (c .before .before .before .before .before) arcs)
-      (whole (c .before .before .before)) ranged (sym (c .pair-rises .ensures arcs least low) ∙ e))
-
-returns-6 : tie.Need-returns-6
-returns-6 c arcs least = decided (c .before) arcs least (not-true _ (c .if6 .taken))
-
-returns-7 : tie.Need-returns-7
-returns-7 c arcs least = decided (c .before) arcs least (not-false _ (c .if6 .left))
+returns : tie.Need-returns
+returns c arcs least =
+    let p = c .before in
+    let g = p .before in
+    let w = g .before in
+    let f = w .before in
+    let u = f .before in
+    let a = u .before .args in
+    c .first-fault .ensures
+    ∙ by-results (readingOf (a .r) arcs) (a .left) (a .c) (a .x) (a .y) (a .z) _ _ _ _ _
+    (ap not (u .up-to .ensures)) (f .may-follow .ensures arcs) (ap (ltb (a .left)) (w .width-of .ensures)) (g .in-range .ensures arcs)
+    (λ h. p .pair-rises .ensures arcs least (low (a .r) arcs (a .c) (a .x) (a .y) (a .z) (u .before .pre) h))
 
 pub fault-of-spec : {M : Type 1} → statement M
 fault-of-spec =
     tie.close
     (tie.spec
-    returns
     up-to-requires
-    returns-2
     may-follow-requires
-    returns-3
     width-of-requires
-    returns-4
     in-range-requires
-    returns-5
     pair-rises-requires
-    returns-6
-    returns-7)
+    first-fault-requires
+    returns)

@@ -21,13 +21,16 @@ Inv-loop s next₀ r₀ at₀ next r at = Reached s next r at
 abbrev μ-loop : tie.MeasureT-loop
 μ-loop s next₀ r₀ at₀ next r at = length s - at
 
+empty-table-requires : tie.Need-empty-table-requires Inv-loop μ-loop
+empty-table-requires c κs = search needs
+
 nothing-read-requires : tie.Need-nothing-read-requires Inv-loop μ-loop
 nothing-read-requires c κs = search needs
 
 loop-holds : tie.Need-loop-holds Inv-loop μ-loop
 loop-holds c =
     let e = c .nothing-read .ensures in
-    reached-start _ _ (e .0) (e .1) (e .2)
+    reached-start _ _ _ (c .before .empty-table .ensures) (e .0) (e .1) (e .2)
 
 shared-slice-read-c : tie.Need-shared-slice-read-c Inv-loop μ-loop
 shared-slice-read-c c = search needs
@@ -61,7 +64,7 @@ abbrev head : tie.After-fault-of Inv-loop μ-loop → tie.At-loop Inv-loop μ-lo
 head c = c .before .before .before .before .before .before
 
 abbrev bytes : tie.At-loop Inv-loop μ-loop → List ℕ
-bytes h = now (h .before .before .before .args .s)
+bytes h = now (h .before .before .before .before .args .s)
 
 module _ (c : tie.After-fault-of Inv-loop μ-loop) where
   -- a command is due
@@ -148,6 +151,7 @@ read-spec =
     (tie.spec
     Inv-loop
     μ-loop
+    empty-table-requires
     nothing-read-requires
     loop-holds
     shared-slice-read-c
