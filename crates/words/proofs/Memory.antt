@@ -5,7 +5,7 @@ use mathlib.Core.List.{List, [], _∷_, _++_, append-assoc, append-nil}
 use Prim.Native.Nat.{ℕ, suc, _+_, _-_, _≤_, _<_}
 use native.Mathlib.Omega.{arith}
 use lib.ListN.{length, getD, set, take, drop, length-append, length-take, length-drop, take-append-drop, drop-of-length-le, List·getD-append}
-use lib.Seq.{length-take-le, take-at, drop-at, take-append-seam, take-all, drop-append-add, drop-drop, getD-append-add, getD-take, getD-drop, set-split, append-snoc, ext-getD}
+use lib.Seq.{length-take-le, take-at, drop-at, take-append-seam, take-all, drop-append-add, drop-drop, getD-append-add, getD-take, getD-drop, set-split, take-suc, append-snoc, ext-getD}
 use native.Mathlib.Nat.{add-zero, add-assoc}
 use native.Mathlib.Numerals.{add-one}
 use Rattle.model.specs.Bytes.{part, overwrite}
@@ -82,9 +82,18 @@ overwrite-join m at xs ys fits =
           = rw front at (drop-append-add (take at m ++ xs) (drop (at + length xs) m) (length ys)) ∙ drop-drop (length ys) (at + length xs) m in
     rw (take-at (take at m ++ xs) (drop (at + length xs) m) (at + length xs) front, rest, length-append xs ys, ← add-assoc, append-assoc (take at m) xs ys)
 
--- a store next to what was written
-pub overwrite-more : (m : List ℕ) (at : ℕ) (xs : List ℕ) (b : ℕ) → at + length xs < length m
-    → set (overwrite m at xs) (at + length xs) b ≡ overwrite m at (xs ++ (b ∷ []))
-overwrite-more m at xs b fits =
-    let h : at + length xs < length (overwrite m at xs) = rw (overwrite-length m at xs (omega arith)) fits in
-    overwrite-one (overwrite m at xs) (at + length xs) b h ∙ overwrite-join m at xs (b ∷ []) (omega arith)
+-- a store next to the n bytes that were written
+pub overwrite-more : (m : List ℕ) (at : ℕ) (xs : List ℕ) (n b : ℕ) → length xs ≡ n → at + n < length m
+    → set (overwrite m at xs) (at + n) b ≡ overwrite m at (xs ++ (b ∷ []))
+overwrite-more m at xs n b size fits =
+    let h : at + length xs < length (overwrite m at xs) = rw (overwrite-length m at xs (omega arith)) (omega arith) in
+    rw (← size) (overwrite-one (overwrite m at xs) (at + length xs) b h ∙ overwrite-join m at xs (b ∷ []) (omega arith))
+
+pub part-length : (m : List ℕ) (at k : ℕ) → at + k ≤ length m → length (part m at k) ≡ k
+part-length m at k fits = simp (length-take, length-drop) (omega arith)
+
+-- one byte more
+pub part-more : (m : List ℕ) (at k : ℕ) → at + k < length m → part m at (k + 1) ≡ part m at k ++ (getD m (at + k) 0 ∷ [])
+part-more m at k fits =
+    let h : k < length (drop at m) = simp length-drop (omega arith) in
+    rw (add-one, take-suc (drop at m) k 0 h, getD-drop)

@@ -6,10 +6,9 @@ use native.Mathlib.Nat.{add-zero, zero-add, add-suc, mul-one, mul-assoc, mul-com
 use native.Mathlib.Numerals.{add-one, one-add}
 use native.Mathlib.Omega.{arith}
 use lib.Arith.{digits-lt, digits-div, digits-mod, mod-mul}
-use lib.ListN.{length, getD, take, drop, length-append, length-take, length-drop}
-use lib.Seq.{take-add, drop-drop, drop-cons, length-take-le}
+use lib.ListN.{length, getD, length-append}
 use lib.Dec.{lit<}
-use Rattle.model.specs.Bytes.{number, bytes, part}
+use Rattle.model.specs.Bytes.{number, bytes}
 
 -- every element is a byte; past the end stands 0
 abbrev pub AreBytes : List ℕ → Type 0
@@ -49,16 +48,6 @@ pub number-lt : (bs : List ℕ) → AreBytes bs → number bs < 256 ^ length bs
 unfolding number
 number-lt [] h = omega arith
 number-lt (b ∷ bs) h = rw (number-cons, pow-succ') (digits-lt (h 0) (number-lt bs (λ i. h (suc i))))
-
--- a part's number, from the numbers of its two parts
-pub number-part : (m : List ℕ) (at j k : ℕ) → at + j + k ≤ length m
-    → number (part m at (j + k)) ≡ number (part m at j) * 256 ^ k + number (part m (at + j) k)
-number-part m at j k fits =
-    let wide : length (part m (at + j) k) ≡ k = simp (length-take, length-drop) (omega arith) in
-    rw (take-add j k (drop at m), drop-drop j at m, number-append, wide)
-
-pub number-byte : (m : List ℕ) (at : ℕ) → at < length m → number (part m at 1) ≡ getD m at 0
-number-byte m at h = rw (drop-cons m at 0 h) (number-single (getD m at 0))
 
 pub bytes-length : (k n : ℕ) → length (bytes k n) ≡ k
 unfolding bytes
@@ -101,7 +90,11 @@ append-bytes [] ys h k i = k i
 append-bytes (x ∷ xs) ys h k zero = h 0
 append-bytes (x ∷ xs) ys h k (suc i) = append-bytes xs ys (λ i. h (suc i)) k i
 
+single : (b : ℕ) → b < 256 → AreBytes (b ∷ [])
+single b h zero = h
+single b h (suc i) = lit< tt
+
 pub bytes-bytes : (k n : ℕ) → AreBytes (bytes k n)
 unfolding bytes
-bytes-bytes zero n i = lit< tt
-bytes-bytes (suc k) n = append-bytes (bytes k (n / 256)) (n % 256 ∷ []) (bytes-bytes k (n / 256)) (λ { zero. mod-lt n (lit< tt) | suc i. lit< tt })
+bytes-bytes zero n = λ i. lit< tt
+bytes-bytes (suc k) n = append-bytes (bytes k (n / 256)) (n % 256 ∷ []) (bytes-bytes k (n / 256)) (single (n % 256) (mod-lt n (lit< tt)))

@@ -1,0 +1,38 @@
+-- Laws of numbers in memory, over the place and the width. Assumes nothing.
+use mathlib.Core.Path.{_≡_, refl, sym, ap, _∙_}
+use mathlib.Core.List.{List, [], _∷_, _++_}
+use Prim.Native.Nat.{ℕ, _+_, _*_, _/_, _%_, _^_, _≤_, _<_}
+use native.Mathlib.Nat.{mod-eq-of-lt}
+use native.Mathlib.Omega.{arith}
+use lib.ListN.{length, getD, set, take, drop}
+use lib.Seq.{take-add, drop-drop, drop-cons}
+use Rattle.model.specs.Bytes.{number, bytes, part, overwrite}
+use Rattle.words.proofs.Memory.{overwrite-one, overwrite-join, overwrite-part, part-length}
+use Rattle.words.proofs.Numbers.{number-append, number-single, number-bytes, bytes-length, bytes-append, bytes-mod}
+
+-- a part's number, from the numbers of its two parts
+pub number-part : (m : List ℕ) (at j k : ℕ) → at + j + k ≤ length m
+    → number (part m at (j + k)) ≡ number (part m at j) * 256 ^ k + number (part m (at + j) k)
+number-part m at j k fits =
+    rw (take-add j k (drop at m), drop-drop j at m, number-append, part-length m (at + j) k fits)
+
+pub number-byte : (m : List ℕ) (at : ℕ) → at < length m → number (part m at 1) ≡ getD m at 0
+number-byte m at h = rw (drop-cons m at 0 h) (number-single (getD m at 0))
+
+-- a number is written as its high part, and then its low part
+pub overwrite-bytes : (m : List ℕ) (at j k n : ℕ) → at + j + k ≤ length m
+    → overwrite (overwrite m at (bytes j (n / 256 ^ k % 256 ^ j))) (at + j) (bytes k (n % 256 ^ k)) ≡ overwrite m at (bytes (j + k) n)
+overwrite-bytes m at j k n fits =
+    rw (bytes-mod j (n / 256 ^ k), bytes-mod k n, bytes-append j k n)
+    (rw (bytes-length j (n / 256 ^ k)) at (overwrite-join m at (bytes j (n / 256 ^ k)) (bytes k n) (omega (arith, bytes-length j (n / 256 ^ k), bytes-length k n))))
+
+-- a byte is written by a store
+pub overwrite-byte : (m : List ℕ) (at b : ℕ) → at < length m → b < 256 → set m at b ≡ overwrite m at (bytes 1 b)
+unfolding bytes
+overwrite-byte m at b h small = rw (mod-eq-of-lt small) (overwrite-one m at b h)
+
+-- a number that was written is read back
+pub number-overwrite : (m : List ℕ) (at k n : ℕ) → at + k ≤ length m → n < 256 ^ k
+    → number (part (overwrite m at (bytes k n)) at k) ≡ n
+number-overwrite m at k n fits small =
+    ap number (rw (bytes-length k n) at (overwrite-part m at (bytes k n) (omega (arith, bytes-length k n)))) ∙ number-bytes k n small

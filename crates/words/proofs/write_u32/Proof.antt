@@ -1,0 +1,56 @@
+use mathlib.Core.Path.{ap, _∙_}
+use mathlib.Core.List.{List}
+use Prim.Native.Nat.{ℕ, _+_, _%_, _^_}
+use native.Mathlib.Omega.{arith}
+use Rattle.model.specs.Bytes.{bytes, overwrite}
+use Rattle.words.proofs.Words.{overwrite-bytes}
+use borrow.Author.Needs.{needs}
+use Rattle.words.proofs.write_u32.Statement.{statement}
+use Rattle.words.proofs.write_u32.Tie as tie
+use Rattle.words.proofs.write_u32.Reads as reads
+use Rattle.words.proofs.write_u32.Lts as lts
+use Rattle.words.proofs.write_u16.Reads as write-u16-reads
+
+-- src/lib.rt:58:22
+cast-write-u16 : tie.Need-cast-write-u16
+cast-write-u16 c = search needs
+
+-- src/lib.rt:58:5
+write-u16-requires : tie.Need-write-u16-requires
+write-u16-requires c κs = search needs
+
+-- src/lib.rt:59:18
+add-write-u16 : tie.Need-add-write-u16
+add-write-u16 c = search needs
+
+-- src/lib.rt:59:26
+cast-write-u16-2 : tie.Need-cast-write-u16-2
+cast-write-u16-2 c = search needs
+
+-- src/lib.rt:59:5
+write-u16-requires-2 : tie.Need-write-u16-requires-2
+write-u16-requires-2 c κs = search needs
+
+-- src/lib.rt:54:1
+same-length : tie.Need-same-length
+same-length c = search needs
+
+-- src/lib.rt:54:1
+returns : tie.Need-returns
+returns c =
+    let start = c .before .before .before .before .before .before .before .before .before .args in
+    c .before .before .write-u162 .ensures
+    ∙ ap (λ (l : List ℕ). overwrite l (start .at + 2) (bytes 2 (start .v % 256 ^ 2))) (c .before .before .before .before .before .before .write-u16 .ensures)
+    ∙ overwrite-bytes (start .s .now) (start .at) 2 2 (start .v) (omega arith)
+
+pub write-u32-spec : {M : Type 1} → statement M
+write-u32-spec =
+    tie.close
+    (tie.spec
+    cast-write-u16
+    write-u16-requires
+    add-write-u16
+    cast-write-u16-2
+    write-u16-requires-2
+    same-length
+    returns)
