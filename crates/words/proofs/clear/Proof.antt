@@ -1,3 +1,6 @@
+use mathlib.Core.Path.{_∙_}
+use lib.ListN.{length, replicate, length-replicate}
+use Rattle.words.proofs.Memory.{overwrite-all}
 use borrow.Author.Needs.{needs}
 use Rattle.words.proofs.clear.Statement.{statement}
 use Rattle.words.proofs.clear.Tie as tie
@@ -15,7 +18,9 @@ same-length c = search needs
 
 -- src/lib.rt:103:1
 returns : tie.Need-returns
-returns c = ?
+returns c =
+    let s = c .before .before .before .before .before .args .s .now in
+    c .before .before .fill .ensures ∙ overwrite-all s (replicate (length s) 0) (length-replicate (length s) 0)
 
 pub clear-spec : {M : Type 1} → statement M
 clear-spec = tie.close (tie.spec fill-requires same-length returns)
