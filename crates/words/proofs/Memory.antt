@@ -1,11 +1,11 @@
 -- Laws of a write into memory: what stands where it was written, and that everything else stands as it did. Assumes nothing.
-use mathlib.Core.Path.{_≡_, refl, sym, ap, _∙_, subst}
+use mathlib.Core.Path.{_≡_, sym, _∙_}
 use mathlib.Core.Logic.{_⊎_, ⊎-elim, ⊎-map}
 use mathlib.Core.List.{List, [], _∷_, _++_, append-assoc, append-nil}
 use Prim.Native.Nat.{ℕ, suc, _+_, _-_, _≤_, _<_}
 use native.Mathlib.Omega.{arith}
 use lib.ListN.{length, getD, set, take, drop, length-append, length-take, length-drop, take-append-drop, drop-of-length-le, List·getD-append}
-use lib.Seq.{length-take-le, take-at, drop-at, take-append-seam, take-all, drop-append-add, drop-drop, getD-append-add, getD-take, getD-drop, set-split, take-suc, append-snoc, ext-getD}
+use lib.Seq.{length-take-le, take-at, drop-at, take-append-seam, drop-append-add, drop-drop, getD-append-add, getD-take, getD-drop, set-split, take-suc, append-snoc, ext-getD}
 use native.Mathlib.Nat.{add-zero, add-assoc}
 use native.Mathlib.Numerals.{add-one}
 use Rattle.model.specs.Bytes.{part, overwrite}
@@ -33,7 +33,6 @@ unfolding overwrite
 overwrite-all m bs same = let h : length m ≤ 0 + length bs = omega arith in rw (drop-of-length-le m h) (append-nil bs)
 
 module _ (m : List ℕ) (at : ℕ) (bs : List ℕ) (fits : at + length bs ≤ length m) where
-
   head-length : length (take at m) ≡ at
   head-length = length-take-le at m (omega arith)
 
@@ -79,7 +78,7 @@ unfolding overwrite
 overwrite-join m at xs ys fits =
     let front : length (take at m ++ xs) ≡ at + length xs = front-length m at xs (omega arith) in
     let rest : drop (at + length xs + length ys) (take at m ++ xs ++ drop (at + length xs) m) ≡ drop (at + length xs + length ys) m
-          = rw front at (drop-append-add (take at m ++ xs) (drop (at + length xs) m) (length ys)) ∙ drop-drop (length ys) (at + length xs) m in
+    = rw front at (drop-append-add (take at m ++ xs) (drop (at + length xs) m) (length ys)) ∙ drop-drop (length ys) (at + length xs) m in
     rw (take-at (take at m ++ xs) (drop (at + length xs) m) (at + length xs) front, rest, length-append xs ys, ← add-assoc, append-assoc (take at m) xs ys)
 
 -- a store next to the n bytes that were written

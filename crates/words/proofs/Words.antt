@@ -1,10 +1,10 @@
 -- Laws of numbers in memory, over the place and the width. Assumes nothing.
-use mathlib.Core.Path.{_≡_, refl, sym, ap, _∙_}
-use mathlib.Core.List.{List, [], _∷_, _++_}
+use mathlib.Core.Path.{_≡_, ap, _∙_}
+use mathlib.Core.List.{List}
 use Prim.Native.Nat.{ℕ, _+_, _*_, _/_, _%_, _^_, _≤_, _<_}
 use native.Mathlib.Nat.{mod-eq-of-lt}
 use native.Mathlib.Omega.{arith}
-use lib.ListN.{length, getD, set, take, drop}
+use lib.ListN.{length, getD, set, drop}
 use lib.Seq.{take-add, drop-drop, drop-cons}
 use Rattle.model.specs.Bytes.{number, bytes, part, overwrite}
 use Rattle.words.proofs.Memory.{overwrite-one, overwrite-join, overwrite-part, part-length}

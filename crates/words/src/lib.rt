@@ -9,7 +9,9 @@ pub fn read_u16(s: &[u8], at: usize) -> u16
     requires { ⌜ at + 2 ≤ length (now s) ⌝ }
     ensures { λ r. ⌜ r ≡ number (part (now (s .entry)) at 2) ⌝ }
 {
-    wide16(s[at]) * 256 + wide16(s[at + 1])
+    let high = wide16(s[at]);
+    let low = wide16(s[at + 1]);
+    high * 256 + low
 }
 
 // The number of four bytes.
@@ -17,7 +19,9 @@ pub fn read_u32(s: &[u8], at: usize) -> u32
     requires { ⌜ at + 4 ≤ length (now s) ⌝ }
     ensures { λ r. ⌜ r ≡ number (part (now (s .entry)) at 4) ⌝ }
 {
-    wide32(read_u16(s, at)) * 65536 + wide32(read_u16(s, at + 2))
+    let high = wide32(read_u16(s, at));
+    let low = wide32(read_u16(s, at + 2));
+    high * 65536 + low
 }
 
 // The number of eight bytes.
@@ -25,7 +29,9 @@ pub fn read_u64(s: &[u8], at: usize) -> u64
     requires { ⌜ at + 8 ≤ length (now s) ⌝ }
     ensures { λ r. ⌜ r ≡ number (part (now (s .entry)) at 8) ⌝ }
 {
-    wide64(read_u32(s, at)) * 4294967296 + wide64(read_u32(s, at + 4))
+    let high = wide64(read_u32(s, at));
+    let low = wide64(read_u32(s, at + 4));
+    high * 4294967296 + low
 }
 
 // The signed number of eight bytes.
@@ -46,8 +52,10 @@ pub fn write_u16(s: &mut [u8], at: usize, v: u16)
     requires { ⌜ at + 2 ≤ length (now s) ⌝ }
     ensures { λ _. ⌜ now (s .exit) ≡ overwrite (now (s .entry)) at (bytes 2 v) ⌝ }
 {
-    s[at] = (v / 256 % 256) as u8;
-    s[at + 1] = (v % 256) as u8;
+    let high = (v / 256 % 256) as u8;
+    let low = (v % 256) as u8;
+    s[at] = high;
+    s[at + 1] = low;
 }
 
 // Writes v as four bytes.
@@ -55,8 +63,10 @@ pub fn write_u32(s: &mut [u8], at: usize, v: u32)
     requires { ⌜ at + 4 ≤ length (now s) ⌝ }
     ensures { λ _. ⌜ now (s .exit) ≡ overwrite (now (s .entry)) at (bytes 4 v) ⌝ }
 {
-    write_u16(s, at, (v / 65536 % 65536) as u16);
-    write_u16(s, at + 2, (v % 65536) as u16);
+    let high = (v / 65536 % 65536) as u16;
+    let low = (v % 65536) as u16;
+    write_u16(s, at, high);
+    write_u16(s, at + 2, low);
 }
 
 // Writes v as eight bytes.
@@ -64,8 +74,10 @@ pub fn write_u64(s: &mut [u8], at: usize, v: u64)
     requires { ⌜ at + 8 ≤ length (now s) ⌝ }
     ensures { λ _. ⌜ now (s .exit) ≡ overwrite (now (s .entry)) at (bytes 8 v) ⌝ }
 {
-    write_u32(s, at, (v / 4294967296 % 4294967296) as u32);
-    write_u32(s, at + 4, (v % 4294967296) as u32);
+    let high = (v / 4294967296 % 4294967296) as u32;
+    let low = (v % 4294967296) as u32;
+    write_u32(s, at, high);
+    write_u32(s, at + 4, low);
 }
 
 // Writes v as eight bytes, in two's complement.
@@ -92,10 +104,10 @@ pub fn fill(s: &mut [u8], at: usize, n: usize, b: u8)
     requires { ⌜ at + n ≤ length (now s) ⌝ }
     ensures { λ _. ⌜ now (s .exit) ≡ overwrite (now (s .entry)) at (replicate n b) ⌝ }
 {
-    let mut i = 0;
-    while i < n {
-        s[at + i] = b;
-        i += 1;
+    let mut filled = 0;
+    while filled < n {
+        s[at + filled] = b;
+        filled += 1;
     }
 }
 
@@ -113,10 +125,10 @@ pub fn copy(src: &[u8], from: usize, dst: &mut [u8], at: usize, n: usize)
     requires { ⌜ at + n ≤ length (now dst) ⌝ }
     ensures { λ _. ⌜ now (dst .exit) ≡ overwrite (now (dst .entry)) at (part (now (src .entry)) from n) ⌝ }
 {
-    let mut i = 0;
-    while i < n {
-        dst[at + i] = src[from + i];
-        i += 1;
+    let mut copied = 0;
+    while copied < n {
+        dst[at + copied] = src[from + copied];
+        copied += 1;
     }
 }
 

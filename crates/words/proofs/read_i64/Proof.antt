@@ -1,3 +1,4 @@
+-- `words::read_i64` meets its contract: below 2 ^ 63 the number itself, and from there on its distance from the top, taken from minus one. Assumes nothing.
 use mathlib.Core.Path.{_≡_, sym, ap, _∙_, subst⁻¹}
 use Prim.Native.Nat.{ℕ, _-_, _^_, _<_}
 use native.Mathlib.Omega.{arith}
@@ -10,11 +11,7 @@ use Rattle.words.proofs.Complement.{signed-low, signed-high, not-pos}
 use borrow.Author.Needs.{needs}
 use Rattle.words.proofs.read_i64.Statement.{statement}
 use Rattle.words.proofs.read_i64.Tie as tie
-use Rattle.words.proofs.read_i64.Reads as reads
-use Rattle.words.proofs.read_i64.Lts as lts
-use Rattle.words.proofs.read_u64.Reads as read-u64-reads
 
--- src/lib.rt:36:9
 -- minus one less the number's distance from the top, as the code computes it
 flipped : (n : ℕ) → 2 ^ 64 - 1 - n < 2 ^ 63 → negsuc 0 -ℤ toZ w64 (2 ^ 64 - 1 - n) ≡ negsuc (2 ^ 64 - 1 - n)
 flipped n h = ap (λ (z : ℤ). negsuc 0 -ℤ z) (toZ-pos w64 h) ∙ not-pos (2 ^ 64 - 1 - n)
@@ -22,25 +19,20 @@ flipped n h = ap (λ (z : ℤ). negsuc 0 -ℤ z) (toZ-pos w64 h) ∙ not-pos (2 
 read-u64-requires : tie.Need-read-u64-requires
 read-u64-requires c κs = search needs
 
--- src/lib.rt:38:9
 cast-result : tie.Need-cast-result
 cast-result c = search needs
 
--- src/lib.rt:40:16
 sub-result : tie.Need-sub-result
 sub-result c = search needs
 
--- src/lib.rt:40:15
 cast-result-2 : tie.Need-cast-result-2
 cast-result-2 c = search needs
 
--- src/lib.rt:40:9
 sub-result-2 : tie.Need-sub-result-2
 sub-result-2 c =
     let n = c .before .read-u64 .result in
     subst⁻¹ (SFits w64) (flipped n (omega arith)) (record { sfits = omega arith })
 
--- src/lib.rt:32:1
 returns : tie.Need-returns
 returns c =
     let n = c .before .read-u64 .result in

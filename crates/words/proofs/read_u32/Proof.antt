@@ -1,42 +1,31 @@
+-- `words::read_u32` meets its contract: a number is made of the numbers of its two halves (`number-part`). Assumes nothing.
 use native.Mathlib.Omega.{arith}
 use Rattle.words.proofs.Words.{number-part}
 use borrow.Author.Needs.{needs}
 use Rattle.words.proofs.read_u32.Statement.{statement}
 use Rattle.words.proofs.read_u32.Tie as tie
-use Rattle.words.proofs.read_u32.Reads as reads
-use Rattle.words.proofs.read_u32.Lts as lts
-use Rattle.words.proofs.read_u16.Reads as read-u16-reads
-use Rattle.words.proofs.wide32.Reads as wide32-reads
 
--- src/lib.rt:20:12
 read-u16-requires : tie.Need-read-u16-requires
 read-u16-requires c κs = search needs
 
--- src/lib.rt:20:5
 wide32-requires : tie.Need-wide32-requires
 wide32-requires c κs = search needs
 
--- src/lib.rt:20:5
-mul-result : tie.Need-mul-result
-mul-result c = search needs
-
--- src/lib.rt:20:58
 add-read-u16 : tie.Need-add-read-u16
 add-read-u16 c = search needs
 
--- src/lib.rt:20:46
 read-u16-requires-2 : tie.Need-read-u16-requires-2
 read-u16-requires-2 c κs = search needs
 
--- src/lib.rt:20:39
 wide32-requires-2 : tie.Need-wide32-requires-2
 wide32-requires-2 c κs = search needs
 
--- src/lib.rt:20:5
+mul-result : tie.Need-mul-result
+mul-result c = search needs
+
 add-result : tie.Need-add-result
 add-result c = search needs
 
--- src/lib.rt:16:1
 returns : tie.Need-returns
 returns c =
     let start = c .before .before .before .before .before .args in
@@ -48,9 +37,9 @@ read-u32-spec =
     (tie.spec
     read-u16-requires
     wide32-requires
-    mul-result
     add-read-u16
     read-u16-requires-2
     wide32-requires-2
+    mul-result
     add-result
     returns)

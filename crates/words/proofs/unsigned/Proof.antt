@@ -1,6 +1,7 @@
+-- `words::unsigned` meets its contract, by the sign of v. Assumes nothing.
 use mathlib.Core.Path.{_≡_, sym, ap, _∙_, subst, subst⁻¹}
 use mathlib.Core.Bool.{true, false}
-use Prim.Native.Nat.{ℕ, _-_, _^_, _≤_}
+use Prim.Native.Nat.{_-_, _^_, _≤_}
 use native.Mathlib.Omega.{arith}
 use lib.Dec.{T}
 use lib.IntN.{ℤ, pos, negsuc, natAbs, _-ℤ_}
@@ -12,8 +13,6 @@ use Rattle.model.specs.Bytes.{complement}
 use Rattle.words.proofs.Complement.{not-negsuc, below-zero, not-below-zero}
 use Rattle.words.proofs.unsigned.Statement.{statement}
 use Rattle.words.proofs.unsigned.Tie as tie
-use Rattle.words.proofs.unsigned.Reads as reads
-use Rattle.words.proofs.unsigned.Lts as lts
 
 -- a negative v: minus one less v, as the code computes it
 flipped : (v : ℤ) → SFits w64 v → ltZ (toZ w64 (ofZ w64 v)) (pos 0) ≡ true

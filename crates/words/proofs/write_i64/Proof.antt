@@ -1,3 +1,4 @@
+-- `words::write_i64` meets its contract: what is written is the two's complement that `unsigned` gives. Assumes nothing.
 use mir.Facts.{toZ-ofZ}
 use mathlib.Core.Path.{ap, _∙_}
 use Prim.Native.Nat.{ℕ}
@@ -5,24 +6,16 @@ use Rattle.model.specs.Bytes.{bytes, complement, overwrite}
 use borrow.Author.Needs.{needs}
 use Rattle.words.proofs.write_i64.Statement.{statement}
 use Rattle.words.proofs.write_i64.Tie as tie
-use Rattle.words.proofs.write_i64.Reads as reads
-use Rattle.words.proofs.write_i64.Lts as lts
-use Rattle.words.proofs.unsigned.Reads as unsigned-reads
-use Rattle.words.proofs.write_u64.Reads as write-u64-reads
 
--- src/lib.rt:76:22
 unsigned-requires : tie.Need-unsigned-requires
 unsigned-requires c κs = search needs
 
--- src/lib.rt:76:5
 write-u64-requires : tie.Need-write-u64-requires
 write-u64-requires c κs = search needs
 
--- src/lib.rt:72:1
 same-length : tie.Need-same-length
 same-length c = search needs
 
--- src/lib.rt:72:1
 returns : tie.Need-returns
 returns c =
     let start = c .before .before .before .before .before .before in
