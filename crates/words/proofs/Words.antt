@@ -3,12 +3,17 @@ use mathlib.Core.Path.{_≡_, ap, _∙_}
 use mathlib.Core.List.{List}
 use Prim.Native.Nat.{ℕ, _+_, _*_, _/_, _%_, _^_, _≤_, _<_}
 use native.Mathlib.Nat.{mod-eq-of-lt}
+use native.Mathlib.Decide.{decLt}
 use native.Mathlib.Omega.{arith}
-use lib.ListN.{length, getD, set, drop}
-use lib.Seq.{take-add, drop-drop, drop-cons}
-use Rattle.model.specs.Bytes.{number, bytes, part, overwrite}
+use lib.Dec.{lit<}
+use lib.IntN.{ℤ}
+use lib.ListN.{length, getD, set, drop, length-take, List·getD-eq-default}
+use lib.Signed.{mag}
+use lib.Seq.{take-add, drop-drop, drop-cons, getD-take, getD-drop}
+use Rattle.model.specs.Bytes.{number, bytes, signed, complement, part, overwrite}
+use Rattle.words.proofs.Complement.{complement-lt, signed-complement}
 use Rattle.words.proofs.Memory.{overwrite-one, overwrite-join, overwrite-part, part-length}
-use Rattle.words.proofs.Numbers.{number-append, number-single, number-bytes, bytes-length, bytes-append, bytes-mod}
+use Rattle.words.proofs.Numbers.{AreBytes, number-append, number-single, number-bytes, bytes-length, bytes-append, bytes-mod}
 
 -- a part's number, from the numbers of its two parts
 pub number-part : (m : List ℕ) (at j k : ℕ) → at + j + k ≤ length m
@@ -36,3 +41,16 @@ pub number-overwrite : (m : List ℕ) (at k n : ℕ) → at + k ≤ length m →
     → number (part (overwrite m at (bytes k n)) at k) ≡ n
 number-overwrite m at k n fits small =
     ap number (rw (bytes-length k n) at (overwrite-part m at (bytes k n) (omega (arith, bytes-length k n)))) ∙ number-bytes k n small
+
+pub signed-overwrite : (m : List ℕ) (at : ℕ) (z : ℤ) → at + 8 ≤ length m → mag z < 2 ^ 63
+    → signed (number (part (overwrite m at (bytes 8 (complement z))) at 8)) ≡ z
+signed-overwrite m at z fits small =
+    ap signed (number-overwrite m at 8 (complement z) fits (complement-lt z small)) ∙ signed-complement z small
+
+-- what stands in a part of bytes is bytes
+pub part-bytes : (m : List ℕ) (at k : ℕ) → AreBytes m → AreBytes (part m at k)
+part-bytes m at k h i = by (decLt i k)
+  where
+    by : Dec (i < k) → getD (part m at k) i 0 < 256
+    by (yes below) = rw (getD-take, getD-drop) (h (at + i))
+    by (no past) = rw (List·getD-eq-default (part m at k) 0 {n = i} (omega (arith, length-take k (drop at m)))) (lit< tt)

@@ -1,7 +1,7 @@
 -- `words::unsigned` meets its contract, by the sign of v. Assumes nothing.
 use mathlib.Core.Path.{_≡_, sym, ap, _∙_, subst, subst⁻¹}
 use mathlib.Core.Bool.{true, false}
-use Prim.Native.Nat.{_-_, _^_, _≤_}
+use Prim.Native.Nat.{_-_, _^_, _<_}
 use native.Mathlib.Omega.{arith}
 use lib.Dec.{T}
 use lib.IntN.{ℤ, pos, negsuc, natAbs, _-ℤ_}
@@ -42,7 +42,8 @@ cast-result c =
 sub-result-2 : tie.Need-sub-result-2
 sub-result-2 c =
     let f = c .before .fits .v in
-    subst⁻¹ (λ (z : ℤ). natAbs z ≤ 2 ^ 64 - 1) (flipped (c .before .args .v) f (c .if1 .taken)) (omega arith)
+    let small = subst⁻¹ (λ (z : ℤ). natAbs z < 2 ^ 63) (flipped (c .before .args .v) f (c .if1 .taken)) (omega arith) in
+    omega arith
 
 cast-result-2 : tie.Need-cast-result-2
 cast-result-2 c =
