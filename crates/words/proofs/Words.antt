@@ -12,8 +12,8 @@ use lib.Signed.{mag}
 use lib.Seq.{take-add, drop-drop, drop-cons, getD-take, getD-drop}
 use Rattle.model.specs.Bytes.{number, bytes, signed, complement, part, overwrite}
 use Rattle.words.proofs.Complement.{complement-lt, signed-complement}
-use Rattle.words.proofs.Memory.{overwrite-one, overwrite-join, overwrite-part, part-length}
-use Rattle.words.proofs.Numbers.{AreBytes, number-append, number-single, number-bytes, bytes-length, bytes-append, bytes-mod}
+use Rattle.words.proofs.Memory.{overwrite-one, overwrite-join, overwrite-part, part-length, part-more}
+use Rattle.words.proofs.Numbers.{AreBytes, number-append, number-single, number-snoc, number-bytes, bytes-length, bytes-append, bytes-mod}
 
 -- a part's number, from the numbers of its two parts
 pub number-part : (m : List ℕ) (at j k : ℕ) → at + j + k ≤ length m
@@ -23,6 +23,11 @@ number-part m at j k fits =
 
 pub number-byte : (m : List ℕ) (at : ℕ) → at < length m → number (part m at 1) ≡ getD m at 0
 number-byte m at h = rw (drop-cons m at 0 h) (number-single (getD m at 0))
+
+-- and from the bytes before its last one
+pub number-more : (m : List ℕ) (at k : ℕ) → at + k < length m
+    → number (part m at (k + 1)) ≡ number (part m at k) * 256 + getD m (at + k) 0
+number-more m at k fits = rw (part-more m at k fits) (number-snoc (part m at k) (getD m (at + k) 0))
 
 -- a number is written as its high part, and then its low part
 pub overwrite-bytes : (m : List ℕ) (at j k n : ℕ) → at + j + k ≤ length m

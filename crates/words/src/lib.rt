@@ -1,6 +1,6 @@
 // Big-endian numbers in slices of bytes, and writes that leave every other byte as it was.
 ghost use mathlib.Core.Path.{_≡_};
-ghost use Prim.Native.Nat.{_+_, _≤_};
+ghost use Prim.Native.Nat.{_+_, _≤_, _<_};
 ghost use lib.ListN.{length, replicate};
 ghost use Rattle.model.specs.Bytes.{number, bytes, signed, complement, part, overwrite, cleared};
 
@@ -19,9 +19,11 @@ pub fn read_u32(s: &[u8], at: usize) -> u32
     requires { ⌜ at + 4 ≤ length (now s) ⌝ }
     ensures { λ r. ⌜ r ≡ number (part (now (s .entry)) at 4) ⌝ }
 {
-    let high = wide32(read_u16(s, at));
-    let low = wide32(read_u16(s, at + 2));
-    high * 65536 + low
+    let a = wide32(s[at]);
+    let b = wide32(s[at + 1]);
+    let c = wide32(s[at + 2]);
+    let d = wide32(s[at + 3]);
+    a * 16777216 + b * 65536 + c * 256 + d
 }
 
 // The number of eight bytes.
@@ -134,12 +136,14 @@ pub fn copy(src: &[u8], from: usize, dst: &mut [u8], at: usize, n: usize)
 
 fn wide16(x: u8) -> u16
     ensures { λ r. ⌜ r ≡ x ⌝ }
+    ensures { λ r. ⌜ r < 256 ⌝ }
 {
     x as u16
 }
 
-fn wide32(x: u16) -> u32
+fn wide32(x: u8) -> u32
     ensures { λ r. ⌜ r ≡ x ⌝ }
+    ensures { λ r. ⌜ r < 256 ⌝ }
 {
     x as u32
 }
