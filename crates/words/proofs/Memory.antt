@@ -48,6 +48,7 @@ module _ (m : List ℕ) (at : ℕ) (bs : List ℕ) (fits : at + length bs ≤ le
   unfolding overwrite
   overwrite-part = rw (append-assoc, drop-at (take at m) (bs ++ drop (at + length bs) m) at head-length) (take-append-seam bs _)
 
+  -- and so is each byte of it
   pub overwrite-inside : (i : ℕ) → i < length bs → getD (overwrite m at bs) (at + i) 0 ≡ getD bs i 0
   unfolding overwrite
   overwrite-inside i h =

@@ -14,7 +14,7 @@ pub fn read_u16(s: &[u8], at: usize) -> u16
     high * 256 + low
 }
 
-// The number of four bytes.
+// The number of four bytes, as a sum over them: two such reads compile to one load.
 pub fn read_u32(s: &[u8], at: usize) -> u32
     requires { ⌜ at + 4 ≤ length (now s) ⌝ }
     ensures { λ r. ⌜ r ≡ number (part (now (s .entry)) at 4) ⌝ }
@@ -101,7 +101,7 @@ fn unsigned(v: i64) -> u64
     }
 }
 
-// Writes n times b.
+// Writes b, n times.
 pub fn fill(s: &mut [u8], at: usize, n: usize, b: u8)
     requires { ⌜ at + n ≤ length (now s) ⌝ }
     ensures { λ _. ⌜ now (s .exit) ≡ overwrite (now (s .entry)) at (replicate n b) ⌝ }
@@ -121,7 +121,7 @@ pub fn clear(s: &mut [u8])
     fill(s, 0, n, 0);
 }
 
-// Copies n bytes of src.
+// Copies n bytes of src into dst.
 pub fn copy(src: &[u8], from: usize, dst: &mut [u8], at: usize, n: usize)
     requires { ⌜ from + n ≤ length (now src) ⌝ }
     requires { ⌜ at + n ≤ length (now dst) ⌝ }
@@ -134,6 +134,7 @@ pub fn copy(src: &[u8], from: usize, dst: &mut [u8], at: usize, n: usize)
     }
 }
 
+// x, at a wider type.
 fn wide16(x: u8) -> u16
     ensures { λ r. ⌜ r ≡ x ⌝ }
     ensures { λ r. ⌜ r < 256 ⌝ }
@@ -141,6 +142,7 @@ fn wide16(x: u8) -> u16
     x as u16
 }
 
+// x, at a wider type.
 fn wide32(x: u8) -> u32
     ensures { λ r. ⌜ r ≡ x ⌝ }
     ensures { λ r. ⌜ r < 256 ⌝ }
@@ -148,6 +150,7 @@ fn wide32(x: u8) -> u32
     x as u32
 }
 
+// x, at a wider type.
 fn wide64(x: u32) -> u64
     ensures { λ r. ⌜ r ≡ x ⌝ }
 {
