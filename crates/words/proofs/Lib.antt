@@ -1,0 +1,5 @@
+pub mod Complement
+pub mod Memory
+pub mod Numbers
+pub mod Signed
+pub mod Words
