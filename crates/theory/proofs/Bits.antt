@@ -1,19 +1,18 @@
 -- The bits of a number: of a half, of bitOr and bitAnd, the count of ones, and the number with given bits.
 -- Assumes nothing.
-use mathlib.Core.Path.{_≡_, refl, sym, _∙_, ap, ap₂}
+use mathlib.Core.Path.{_≡_, refl, sym, _∙_, ap, subst}
 use mathlib.Core.Bool.{Bool, true, false, _&&_, _||_}
-use mathlib.Core.Logic.{_↔_}
+use mathlib.Core.Logic.{_↔_, _⊎_, ⊎-elim}
 use Prim.Native.Nat.{ℕ, zero, suc, _+_, _-_, _*_, _/_, _%_, _^_, _<_, _≤_, min, max}
-use native.Mathlib.Nat.{zero-add, add-zero, div-one, zero-div, div-eq-of-lt, div-add-mod', mod-lt, two-pow-succ, lt-of-lt-of-le, add-sub-of-le}
-use native.Mathlib.Numerals.{add-one, one-add}
+use native.Mathlib.Nat.{div-one, zero-div, div-eq-of-lt, two-pow-succ, lt-of-lt-of-le, add-sub-of-le}
+use native.Mathlib.Numerals.{one-add}
 use native.Mathlib.Omega.{arith}
 use lib.Bits.{bitAnd, bitOr, and-step, or-step, and-shr, or-shr}
 use lib.Dec.{T, eqb}
 use lib.Pow.{pow-mono, shr-shr}
-use borrow.Author.Tests.{eqb-true, eq-eqb, ne-eqb}
 use Rattle.model.specs.Lists.{bit, one, ones, sum}
-use Rattle.theory.proofs.Tests.{is-true, is-false, holds, fails, same-test, both-hold, left-holds, right-holds}
-use Rattle.theory.proofs.Sums.{sum-same, sum-zero, sum-head, sum-past}
+use Rattle.theory.proofs.Tests.{is-true, is-false, holds, fails, both-hold, left-holds, right-holds, or-cases, or-left, or-right}
+use Rattle.theory.proofs.Sums.{sum-same, sum-head, sum-past}
 
 -- the lowest bit
 abbrev odd : ℕ → Bool
@@ -71,6 +70,13 @@ odd-and a b =
 -- a bit of bitOr is a bit of one of the two
 pub bit-or : (a b k : ℕ) → bit (bitOr a b) k ≡ (bit a k || bit b k)
 bit-or a b k = ap odd (or-shr a b k) ∙ odd-or (a / 2 ^ k) (b / 2 ^ k)
+
+-- the same, by cases
+pub or-bit : (a b k : ℕ) → T (bit (bitOr a b) k) ↔ (T (bit a k) ⊎ T (bit b k))
+or-bit a b k = (
+  λ h. or-cases (bit a k) (bit b k) (subst T (bit-or a b k) h),
+  λ h. subst T (sym (bit-or a b k)) (⊎-elim (or-left (bit a k) (bit b k)) (or-right (bit a k) (bit b k)) h),
+)
 
 -- a bit of bitAnd is a bit of both
 pub bit-and : (a b k : ℕ) → bit (bitAnd a b) k ≡ (bit a k && bit b k)
