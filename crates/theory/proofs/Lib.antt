@@ -2,3 +2,4 @@ pub mod Tests
 pub mod Sums
 pub mod Bits
 pub mod Edges
+pub mod Sound
