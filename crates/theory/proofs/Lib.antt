@@ -3,3 +3,4 @@ pub mod Sums
 pub mod Bits
 pub mod Edges
 pub mod Sound
+pub mod Walks
