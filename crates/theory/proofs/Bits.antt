@@ -29,6 +29,9 @@ bit-half n k = ap odd (shr-shr n 1 k ∙ ap (λ (j : ℕ). n / 2 ^ j) (one-add k
 pub bit-of-zero : (k : ℕ) → bit 0 k ≡ false
 bit-of-zero k = ap odd (zero-div (2 ^ k))
 
+pub zero-no-bit : {m : ℕ} → m ≡ 0 → (k : ℕ) → T (bit m k) → ⊥
+zero-no-bit e k h = fails (ap (λ (n : ℕ). bit n k) e ∙ bit-of-zero k) h
+
 -- a number below 2 ^ n has no bit from n on
 pub bit-past : (n m k : ℕ) → m < 2 ^ n → n ≤ k → bit m k ≡ false
 bit-past n m k h l = ap odd (div-eq-of-lt (lt-of-lt-of-le h (pow-mono l)))
@@ -132,6 +135,9 @@ pub ones-past : (n w m : ℕ) → m < 2 ^ n → n ≤ w → ones w m ≡ ones n 
 ones-past n w m h l =
     ones-sum w m ∙ ap (sum (λ k. one (bit m k))) (sym (add-sub-of-le l))
     ∙ sum-past (λ k. one (bit m k)) n (w - n) (λ k p. ap one (bit-past n m k h p)) ∙ sym (ones-sum n m)
+
+pub ones-below : (n w m : ℕ) → m < 2 ^ n → n ≤ w → ones w m ≡ sum (λ k. one (bit m k)) n
+ones-below n w m h l = ones-past n w m h l ∙ ones-sum n m
 
 -- the number whose lowest n bits are f 0 to f (n − 1), and no other
 pub fromBits : (ℕ → Bool) → ℕ → ℕ

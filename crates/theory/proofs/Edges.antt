@@ -20,8 +20,7 @@ use Rattle.model.specs.Masks.{masksOf}
 use Rattle.model.specs.Graph.{Node, Edge, joined, choices, edgeOf, edgesTo, edgesAt, edges}
 use Rattle.model.proofs.Lists.{mem-of-keep, mem-keep, mem-of-upFrom, mem-upFrom, mem-of-flatMap, mem-flatMap}
 use Rattle.model.proofs.Plan.{both}
-use Rattle.theory.proofs.Tests.{fails}
-use Rattle.theory.proofs.Bits.{Apart, and-apart, bit-zero, bit-half, bit-of-zero, or-bit}
+use Rattle.theory.proofs.Bits.{Apart, and-apart, bit-zero, bit-half, zero-no-bit, or-bit}
 
 -- "if the label releases it, C bits below bit D"
 pub record Picked (t : Task) (released : Bool) (m : ℕ) : Type 0 where
@@ -34,18 +33,15 @@ pub record Picked (t : Task) (released : Bool) (m : ℕ) : Type 0 where
 abbrev pub MaskOf : Task → Bool → ℕ → Type 0
 MaskOf t released m = (m ≡ 0) ⊎ Picked t released m
 
-zero-apart : (m taken : ℕ) → m ≡ 0 → Apart m taken
-zero-apart m taken e k h l = fails (ap (λ (n : ℕ). bit n k) e ∙ bit-of-zero k) h
-
 -- the masks of a task are 0, or fit it, and are clear of the pattern
 pub mem-masksOf : (t : Task) (b : Bool) (taken m : ℕ) → List·Memᴰ m (masksOf t b taken) ↔ (MaskOf t b m × Apart m taken)
 unfolding masksOf
 mem-masksOf t false taken m = (
-  λ h. let e = List·Memᴰ·eq-of-singleton h in (inl e, zero-apart m taken e),
+  λ h. let e = List·Memᴰ·eq-of-singleton h in (inl e, λ k b _. zero-no-bit e k b),
   λ h. List·Memᴰ·head (⊎-elim (λ (e : m ≡ 0). e) (λ (p : Picked t false m). absurd (p .out)) (h .0)),
 )
 mem-masksOf t true taken m = (
-  λ h. ⊎-elim (λ (e : m ≡ 0). (inl e, zero-apart m taken e)) (λ k. of-kept (mem-of-keep test (upFrom 1 (2 ^ (t .window) - 1)) k)) (List·Memᴰ·cases-cons h),
+  λ h. ⊎-elim (λ (e : m ≡ 0). (inl e, λ k b _. zero-no-bit e k b)) (λ k. of-kept (mem-of-keep test (upFrom 1 (2 ^ (t .window) - 1)) k)) (List·Memᴰ·cases-cons h),
   λ h. ⊎-elim (λ (e : m ≡ 0). List·Memᴰ·head e) (λ (p : Picked t true m). List·Memᴰ·tail (kept p (h .1))) (h .0),
 )
   where
@@ -76,8 +72,8 @@ fits-nil : (l taken : ℕ) → Fits [] l taken []
 fits-nil l taken = record {
   count = refl;
   mask = λ i. inl refl;
-  clear = λ i. zero-apart 0 taken refl;
-  apart = λ i j k h. absurd (fails (bit-of-zero k) h);
+  clear = λ i k b _. zero-no-bit refl k b;
+  apart = λ i j k h. absurd (zero-no-bit refl k h);
 }
 
 module _ (t : Task) (ts : List Task) (l taken m : ℕ) (ms : List ℕ) where
@@ -140,7 +136,7 @@ mem-choices ts l taken ms = (of-choices ts l taken ms, in-choices ts l taken ms)
 -- a bit of the joined pattern is a bit of the pattern or of a mask
 pub joined-bit : (taken : ℕ) (ms : List ℕ) (k : ℕ) →
     T (bit (joined taken ms) k) ↔ (T (bit taken k) ⊎ ((i : ℕ) × T (bit (getD ms i 0) k)))
-joined-bit taken [] k = (inl, ⊎-elim (λ h. h) (λ h. absurd (fails (bit-of-zero k) (h .1))))
+joined-bit taken [] k = (inl, ⊎-elim (λ h. h) (λ h. absurd (zero-no-bit refl k (h .1))))
 joined-bit taken (m ∷ ms) k = (
   λ h. ⊎-elim (λ b. ⊎-elim inl (λ c. inr (zero, c)) (or-bit taken m k .0 b)) (λ r. inr (suc (r .0), r .1)) (joined-bit (bitOr taken m) ms k .0 h),
   λ h. joined-bit (bitOr taken m) ms k .1 (⊎-elim (λ b. inl (or-bit taken m k .1 (inl b))) (λ r. at (r .0) (r .1)) h),

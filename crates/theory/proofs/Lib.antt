@@ -4,3 +4,4 @@ pub mod Bits
 pub mod Edges
 pub mod Sound
 pub mod Walks
+pub mod Schedules

@@ -16,9 +16,8 @@ use Rattle.model.specs.Slot.{noTask, taskOf, slot}
 use Rattle.model.specs.Schedule.{admitsFrom, gainFrom}
 use Rattle.model.specs.Graph.{Node, Edge, joined, worth, edgeOf, edges}
 use Rattle.model.specs.Walk.{Walk, here, go, kept, ideal, labels, maskAt}
-use Rattle.theory.proofs.Tests.{fails}
 use Rattle.theory.proofs.Sums.{sum-same, sum-zero, sum-head}
-use Rattle.theory.proofs.Bits.{bit-half, bit-of-zero}
+use Rattle.theory.proofs.Bits.{bit-half, zero-no-bit}
 use Rattle.theory.proofs.Edges.{MaskOf, Fits, EdgeFrom, mem-edges, joined-bit}
 
 -- an edge from a node, by its own parts
@@ -151,8 +150,8 @@ at-place n e h = subst (λ i. T (bit n i)) e h
 -- the masks of a walk are clear of the pattern that it finds
 pub walk-clear : {P : Plan} {u v : Node} {es : List Edge} → Walk P u v es → (t i k : ℕ) →
     T (bit (maskAt es t i) k) → T (bit (u .taken) (t + k)) → ⊥
-walk-clear here t i k h b = fails (bit-of-zero k) h
-walk-clear (go m w) zero zero k h b = fails (bit-of-zero k) h
+walk-clear here t i k h b = zero-no-bit refl k h
+walk-clear (go m w) zero zero k h b = zero-no-bit refl k h
 walk-clear {P} (go {u = u} {e = e} m w) zero (suc i) k h b = step-of P u e m .fits .clear i k h (at-place (u .taken) (omega arith) b)
 walk-clear {P} (go {u = u} {e = e} m w) (suc t) i k h b =
     walk-clear w t i k h (step-keeps (step-of P u e m) (t + k) (at-place (u .taken) (omega arith) b))
@@ -161,16 +160,16 @@ walk-clear {P} (go {u = u} {e = e} m w) (suc t) i k h b =
 first-apart : {P : Plan} {u v : Node} {e : Edge} {es : List Edge} → Step P u e → Walk P (e .to) v es →
     (i k t i′ k′ : ℕ) → k ≡ suc t + k′ →
     T (bit (maskAt (e ∷ es) 0 i) k) → T (bit (maskAt es t i′) k′) → ⊥
-first-apart s w zero k t i′ k′ p h h′ = fails (bit-of-zero k) h
+first-apart s w zero k t i′ k′ p h h′ = zero-no-bit refl k h
 first-apart {e = e} s w (suc i) k t i′ k′ p h h′ =
     walk-clear w t i′ k′ h′ (step-takes s (t + k′) i (at-place (getD (e .masks) i 0) (omega arith) h))
 
 -- no slot is given twice along a walk
 pub walk-once : {P : Plan} {u v : Node} {es : List Edge} → Walk P u v es → (t i k t′ i′ k′ : ℕ) → t + k ≡ t′ + k′ →
     T (bit (maskAt es t i) k) → T (bit (maskAt es t′ i′) k′) → (t ≡ t′) × (i ≡ i′)
-walk-once here t i k t′ i′ k′ p h h′ = absurd (fails (bit-of-zero k) h)
-walk-once (go m w) zero zero k zero i′ k′ p h h′ = absurd (fails (bit-of-zero k) h)
-walk-once (go m w) zero (suc i) k zero zero k′ p h h′ = absurd (fails (bit-of-zero k′) h′)
+walk-once here t i k t′ i′ k′ p h h′ = absurd (zero-no-bit refl k h)
+walk-once (go m w) zero zero k zero i′ k′ p h h′ = absurd (zero-no-bit refl k h)
+walk-once (go m w) zero (suc i) k zero zero k′ p h h′ = absurd (zero-no-bit refl k′ h′)
 walk-once {P} (go {u = u} {e = e} m w) zero (suc i) k zero (suc i′) k′ p h h′ =
     (refl, ap suc (step-of P u e m .fits .apart i i′ k h (at-place (getD (e .masks) i′ 0) (omega arith) h′)))
 walk-once {P} (go {u = u} {e = e} m w) zero i k (suc t′) i′ k′ p h h′ =
