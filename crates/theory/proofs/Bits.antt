@@ -1,6 +1,6 @@
 -- The bits of a number: of a half, of bitOr and bitAnd, the count of ones, and the number with given bits.
 -- Assumes nothing.
-use mathlib.Core.Path.{_≡_, refl, sym, _∙_, ap, subst}
+use mathlib.Core.Path.{_≡_, refl, sym, _∙_, ap, ap₂, subst}
 use mathlib.Core.Bool.{Bool, true, false, _&&_, _||_}
 use mathlib.Core.Logic.{_↔_, _⊎_, ⊎-elim}
 use Prim.Native.Nat.{ℕ, zero, suc, _+_, _-_, _*_, _/_, _%_, _^_, _<_, _≤_, min, max}
@@ -18,6 +18,7 @@ use Rattle.theory.proofs.Sums.{sum-same, sum-head, sum-past}
 abbrev odd : ℕ → Bool
 odd n = eqb (n % 2) 1
 
+-- bit 0 is the lowest digit
 pub bit-zero : (n : ℕ) → bit n 0 ≡ eqb (n % 2) 1
 bit-zero n = ap odd (div-one n)
 
@@ -29,6 +30,7 @@ bit-half n k = ap odd (shr-shr n 1 k ∙ ap (λ (j : ℕ). n / 2 ^ j) (one-add k
 pub bit-of-zero : (k : ℕ) → bit 0 k ≡ false
 bit-of-zero k = ap odd (zero-div (2 ^ k))
 
+-- so a number that has a bit is not 0
 pub zero-no-bit : {m : ℕ} → m ≡ 0 → (k : ℕ) → T (bit m k) → ⊥
 zero-no-bit e k h = fails (ap (λ (n : ℕ). bit n k) e ∙ bit-of-zero k) h
 
@@ -36,39 +38,34 @@ zero-no-bit e k h = fails (ap (λ (n : ℕ). bit n k) e ∙ bit-of-zero k) h
 pub bit-past : (n m k : ℕ) → m < 2 ^ n → n ≤ k → bit m k ≡ false
 bit-past n m k h l = ap odd (div-eq-of-lt (lt-of-lt-of-le h (pow-mono l)))
 
--- the digits 0 and 1
-digit-max : (x y : ℕ) → x < 2 → y < 2 → eqb (max x y) 1 ≡ (eqb x 1 || eqb y 1)
-digit-max zero zero h l = refl
-digit-max zero (suc zero) h l = refl
-digit-max zero (suc (suc y)) h l = absurd (omega arith)
-digit-max (suc zero) zero h l = refl
-digit-max (suc zero) (suc zero) h l = refl
-digit-max (suc zero) (suc (suc y)) h l = absurd (omega arith)
-digit-max (suc (suc x)) y h l = absurd (omega arith)
+-- what holds of 0 and 1 holds of the lowest digit
+digit : (C : ℕ → Type 0) → C 0 → C 1 → (n : ℕ) → C (n % 2)
+digit C c₀ c₁ n = below (n % 2) (omega arith)
+  where
+    below : (d : ℕ) → d < 2 → C d
+    below zero h = c₀
+    below (suc zero) h = c₁
+    below (suc (suc d)) h = absurd (omega arith)
 
-digit-min : (x y : ℕ) → x < 2 → y < 2 → eqb (min x y) 1 ≡ (eqb x 1 && eqb y 1)
-digit-min zero zero h l = refl
-digit-min zero (suc zero) h l = refl
-digit-min zero (suc (suc y)) h l = absurd (omega arith)
-digit-min (suc zero) zero h l = refl
-digit-min (suc zero) (suc zero) h l = refl
-digit-min (suc zero) (suc (suc y)) h l = absurd (omega arith)
-digit-min (suc (suc x)) y h l = absurd (omega arith)
+-- the same of two numbers
+digits : (C : ℕ → ℕ → Type 0) → C 0 0 → C 0 1 → C 1 0 → C 1 1 → (a b : ℕ) → C (a % 2) (b % 2)
+digits C c₀₀ c₀₁ c₁₀ c₁₁ a b = digit (λ x. C x (b % 2)) (digit (C 0) c₀₀ c₀₁ b) (digit (C 1) c₁₀ c₁₁ b) a
 
-digit-one : (x : ℕ) → x < 2 → one (eqb x 1) ≡ x
-digit-one zero h = refl
-digit-one (suc zero) h = refl
-digit-one (suc (suc x)) h = absurd (omega arith)
+-- the lowest digit, from its test
+one-odd : (n : ℕ) → one (odd n) ≡ n % 2
+one-odd n = digit (λ x. one (eqb x 1) ≡ x) refl refl n
 
+-- the lowest bit of bitOr
 odd-or : (a b : ℕ) → odd (bitOr a b) ≡ (odd a || odd b)
 odd-or a b =
-    let digit : bitOr a b % 2 ≡ max (a % 2) (b % 2) = omega (arith, or-step a b) in
-    ap (λ (d : ℕ). eqb d 1) digit ∙ digit-max (a % 2) (b % 2) (omega arith) (omega arith)
+    let e : bitOr a b % 2 ≡ max (a % 2) (b % 2) = omega (arith, or-step a b) in
+    ap (λ (d : ℕ). eqb d 1) e ∙ digits (λ x y. eqb (max x y) 1 ≡ (eqb x 1 || eqb y 1)) refl refl refl refl a b
 
+-- the lowest bit of bitAnd
 odd-and : (a b : ℕ) → odd (bitAnd a b) ≡ (odd a && odd b)
 odd-and a b =
-    let digit : bitAnd a b % 2 ≡ min (a % 2) (b % 2) = omega (arith, and-step a b) in
-    ap (λ (d : ℕ). eqb d 1) digit ∙ digit-min (a % 2) (b % 2) (omega arith) (omega arith)
+    let e : bitAnd a b % 2 ≡ min (a % 2) (b % 2) = omega (arith, and-step a b) in
+    ap (λ (d : ℕ). eqb d 1) e ∙ digits (λ x y. eqb (min x y) 1 ≡ (eqb x 1 && eqb y 1)) refl refl refl refl a b
 
 -- a bit of bitOr is a bit of one of the two
 pub bit-or : (a b k : ℕ) → bit (bitOr a b) k ≡ (bit a k || bit b k)
@@ -89,14 +86,14 @@ bit-and a b k = ap odd (and-shr a b k) ∙ odd-and (a / 2 ^ k) (b / 2 ^ k)
 pub bits-determine : (n a b : ℕ) → a < 2 ^ n → b < 2 ^ n → ((k : ℕ) → k < n → bit a k ≡ bit b k) → a ≡ b
 bits-determine zero a b h l e = omega arith
 bits-determine (suc n) a b h l e =
-    let low : a % 2 ≡ b % 2 =
-    sym (digit-one (a % 2) (omega arith)) ∙ ap one (sym (bit-zero a) ∙ e 0 (omega arith) ∙ bit-zero b)
-    ∙ digit-one (b % 2) (omega arith) in
-    let high : a / 2 ≡ b / 2 =
-    bits-determine n (a / 2) (b / 2) (omega (arith, two-pow-succ n)) (omega (arith, two-pow-succ n))
-    (λ k m. bit-half a k ∙ e (suc k) (omega arith) ∙ sym (bit-half b k)) in
-    omega arith
+    omega (
+      arith,
+      sym (one-odd a) ∙ ap one (sym (bit-zero a) ∙ e 0 (omega arith) ∙ bit-zero b) ∙ one-odd b,
+      bits-determine n (a / 2) (b / 2) (omega (arith, two-pow-succ n)) (omega (arith, two-pow-succ n))
+          (λ k m. bit-half a k ∙ e (suc k) (omega arith) ∙ sym (bit-half b k)),
+    )
 
+-- every number is below a power of 2
 lt-pow : (n : ℕ) → n < 2 ^ n
 lt-pow zero = omega arith
 lt-pow (suc n) = omega (arith, two-pow-succ n, lt-pow n)
@@ -125,10 +122,9 @@ and-apart a b = (
 pub ones-sum : (n m : ℕ) → ones n m ≡ sum (λ k. one (bit m k)) n
 ones-sum zero m = refl
 ones-sum (suc n) m =
-    let low : one (bit m 0) ≡ m % 2 = ap one (bit-zero m) ∙ digit-one (m % 2) (omega arith) in
-    let rest : sum (λ k. one (bit (m / 2) k)) n ≡ sum (λ k. one (bit m (suc k))) n =
-    sum-same _ _ n (λ k h. ap one (bit-half m k)) in
-    omega (arith, ones-sum n (m / 2), sum-head (λ k. one (bit m k)) n)
+    ap₂ (λ (a b : ℕ). a + b) (sym (one-odd m) ∙ ap one (sym (bit-zero m)))
+    (ones-sum n (m / 2) ∙ sum-same _ _ n (λ k _. ap one (bit-half m k)))
+    ∙ sym (sum-head (λ k. one (bit m k)) n)
 
 -- a number below 2 ^ n has its ones among its lowest n bits
 pub ones-past : (n w m : ℕ) → m < 2 ^ n → n ≤ w → ones w m ≡ ones n m
@@ -136,6 +132,7 @@ ones-past n w m h l =
     ones-sum w m ∙ ap (sum (λ k. one (bit m k))) (sym (add-sub-of-le l))
     ∙ sum-past (λ k. one (bit m k)) n (w - n) (λ k p. ap one (bit-past n m k h p)) ∙ sym (ones-sum n m)
 
+-- and their count is the sum of those
 pub ones-below : (n w m : ℕ) → m < 2 ^ n → n ≤ w → ones w m ≡ sum (λ k. one (bit m k)) n
 ones-below n w m h l = ones-past n w m h l ∙ ones-sum n m
 
@@ -144,15 +141,18 @@ pub fromBits : (ℕ → Bool) → ℕ → ℕ
 fromBits f zero = 0
 fromBits f (suc n) = one (f 0) + fromBits (λ k. f (suc k)) n * 2
 
+-- one is a digit
 one-lt : (b : Bool) → one b < 2
 one-lt true = omega arith
 one-lt false = omega arith
 
+-- it is below 2 ^ n
 pub fromBits-lt : (f : ℕ → Bool) (n : ℕ) → fromBits f n < 2 ^ n
 unfolding fromBits
 fromBits-lt f zero = omega arith
 fromBits-lt f (suc n) = omega (arith, one-lt (f 0), fromBits-lt (λ k. f (suc k)) n, two-pow-succ n)
 
+-- the test of one is the bit
 eqb-one : (b : Bool) → eqb (one b) 1 ≡ b
 eqb-one true = refl
 eqb-one false = refl

@@ -41,7 +41,8 @@ mem-masksOf t false taken m = (
   λ h. List·Memᴰ·head (⊎-elim (λ (e : m ≡ 0). e) (λ (p : Picked t false m). absurd (p .out)) (h .0)),
 )
 mem-masksOf t true taken m = (
-  λ h. ⊎-elim (λ (e : m ≡ 0). (inl e, λ k b _. zero-no-bit e k b)) (λ k. of-kept (mem-of-keep test (upFrom 1 (2 ^ (t .window) - 1)) k)) (List·Memᴰ·cases-cons h),
+  λ h. ⊎-elim (λ (e : m ≡ 0). (inl e, λ k b _. zero-no-bit e k b))
+      (λ k. of-kept (mem-of-keep test (upFrom 1 (2 ^ (t .window) - 1)) k)) (List·Memᴰ·cases-cons h),
   λ h. ⊎-elim (λ (e : m ≡ 0). List·Memᴰ·head e) (λ (p : Picked t true m). List·Memᴰ·tail (kept p (h .1))) (h .0),
 )
   where
@@ -68,6 +69,7 @@ pub record Fits (ts : List Task) (l taken : ℕ) (ms : List ℕ) : Type 0 where
   pub clear : (i : ℕ) → Apart (getD ms i 0) taken
   pub apart : (i j k : ℕ) → T (bit (getD ms i 0) k) → T (bit (getD ms j 0) k) → i ≡ j
 
+-- no task, no mask
 fits-nil : (l taken : ℕ) → Fits [] l taken []
 fits-nil l taken = record {
   count = refl;
@@ -99,6 +101,7 @@ module _ (t : Task) (ts : List Task) (l taken m : ℕ) (ms : List ℕ) where
   fits-head : Fits (t ∷ ts) l taken (m ∷ ms) → MaskOf t (eqb (l % 2) 1) m × Apart m taken
   fits-head f = (subst (λ b. MaskOf t b m) (bit-zero l) (f .mask 0), f .clear 0)
 
+  -- the later tasks find the pattern with the first mask in it
   fits-tail : Fits (t ∷ ts) l taken (m ∷ ms) → Fits ts (l / 2) (bitOr taken m) ms
   fits-tail f = record {
     count = omega (arith, f .count);
@@ -109,6 +112,7 @@ module _ (t : Task) (ts : List Task) (l taken m : ℕ) (ms : List ℕ) where
     apart = λ i j k h h′. omega (arith, f .apart (suc i) (suc j) k h h′);
   }
 
+-- every choice fits
 of-choices : (ts : List Task) (l taken : ℕ) (ms : List ℕ) → List·Memᴰ ms (choices ts l taken) → Fits ts l taken ms
 unfolding choices
 of-choices [] l taken ms h = subst (Fits [] l taken) (sym (List·Memᴰ·eq-of-singleton h)) (fits-nil l taken)
@@ -119,6 +123,7 @@ of-choices (t ∷ ts) l taken ms h =
     subst (Fits (t ∷ ts) l taken) (s .2)
     (fits-cons t ts l taken m (s .0) (mem-masksOf t (eqb (l % 2) 1) taken m .0 (r .1)) (of-choices ts (l / 2) (bitOr taken m) (s .0) (s .1)))
 
+-- what fits is a choice
 in-choices : (ts : List Task) (l taken : ℕ) (ms : List ℕ) → Fits ts l taken ms → List·Memᴰ ms (choices ts l taken)
 unfolding choices
 in-choices [] l taken [] f = List·Memᴰ·head refl
@@ -138,7 +143,8 @@ pub joined-bit : (taken : ℕ) (ms : List ℕ) (k : ℕ) →
     T (bit (joined taken ms) k) ↔ (T (bit taken k) ⊎ ((i : ℕ) × T (bit (getD ms i 0) k)))
 joined-bit taken [] k = (inl, ⊎-elim (λ h. h) (λ h. absurd (zero-no-bit refl k (h .1))))
 joined-bit taken (m ∷ ms) k = (
-  λ h. ⊎-elim (λ b. ⊎-elim inl (λ c. inr (zero, c)) (or-bit taken m k .0 b)) (λ r. inr (suc (r .0), r .1)) (joined-bit (bitOr taken m) ms k .0 h),
+  λ h. ⊎-elim (λ b. ⊎-elim inl (λ c. inr (zero, c)) (or-bit taken m k .0 b)) (λ r. inr (suc (r .0), r .1))
+      (joined-bit (bitOr taken m) ms k .0 h),
   λ h. joined-bit (bitOr taken m) ms k .1 (⊎-elim (λ b. inl (or-bit taken m k .1 (inl b))) (λ r. at (r .0) (r .1)) h),
 )
   where
@@ -146,46 +152,51 @@ joined-bit taken (m ∷ ms) k = (
     at zero b = inl (or-bit taken m k .1 (inr b))
     at (suc i) b = inr (i, b)
 
--- an edge from a node: its label is admitted, and its masks are a choice
-pub record EdgeFrom (P : Plan) (u : Node) (e : Edge) : Type 0 where
-  pub label : ℕ
+-- an edge of a label that leads to the state o, if any: its masks are a choice
+pub record EdgeTo (P : Plan) (u : Node) (l : ℕ) (o : Option ℕ) (e : Edge) : Type 0 where
   pub next : ℕ
   pub masks : List ℕ
+  pub admitted : o ≡ some next
+  pub fits : Fits (P .tasks) l (u .taken) masks
+  pub is : e ≡ edgeOf P u l next masks
+
+-- an edge of a label: the automaton admits it
+abbrev pub EdgeAt : Plan → Node → ℕ → Edge → Type 0
+EdgeAt P u l e = EdgeTo P u l (nextIn (P .arcs) (u .state) l) e
+
+-- an edge of a node: its label is below 2 to the number of tasks
+pub record EdgeFrom (P : Plan) (u : Node) (e : Edge) : Type 0 where
+  pub label : ℕ
   pub below : label < 2 ^ length (P .tasks)
-  pub admitted : nextIn (P .arcs) (u .state) label ≡ some next
-  pub fits : Fits (P .tasks) label (u .taken) masks
-  pub is : e ≡ edgeOf P u label next masks
+  pub at : EdgeAt P u label e
 
-module _ (P : Plan) (u : Node) (l : ℕ) where
-  in-edgesTo : (o : Option ℕ) (e : Edge) →
-      List·Memᴰ e (edgesTo P u l o) ↔ ((s : ℕ) × (ms : List ℕ) × (o ≡ some s) × Fits (P .tasks) l (u .taken) ms × (e ≡ edgeOf P u l s ms))
-  in-edgesTo none e = (λ h. absurd (List·Memᴰ·not-nil h), λ r. absurd (Option·none-ne-some (r .0) (r .2)))
-  in-edgesTo (some s) e = (
-    λ h. let r = Memᴰ·of-map (edgeOf P u l s) (choices (P .tasks) l (u .taken)) h in
-        (s, r .0, refl, mem-choices (P .tasks) l (u .taken) (r .0) .0 (r .1), sym (r .2)),
-    λ r. Memᴰ·cast (r .4 ∙ ap (λ (n : ℕ). edgeOf P u l n (r .1)) (sym (Option·some-injective s (r .0) (r .2))))
-        (Memᴰ·map (edgeOf P u l s) (mem-choices (P .tasks) l (u .taken) (r .1) .1 (r .3))),
-  )
+-- the edges of a label, by the state that it leads to
+mem-edgesTo : (P : Plan) (u : Node) (l : ℕ) (o : Option ℕ) (e : Edge) → List·Memᴰ e (edgesTo P u l o) ↔ EdgeTo P u l o e
+mem-edgesTo P u l none e = (λ h. absurd (List·Memᴰ·not-nil h), λ r. absurd (Option·none-ne-some (r .next) (r .admitted)))
+mem-edgesTo P u l (some s) e = (
+  λ h. let r = Memᴰ·of-map (edgeOf P u l s) (choices (P .tasks) l (u .taken)) h in
+      record { next = s; masks = r .0; admitted = refl; fits = mem-choices (P .tasks) l (u .taken) (r .0) .0 (r .1); is = sym (r .2) },
+  λ r. Memᴰ·cast (r .is ∙ ap (λ (n : ℕ). edgeOf P u l n (r .masks)) (sym (Option·some-injective s (r .next) (r .admitted))))
+      (Memᴰ·map (edgeOf P u l s) (mem-choices (P .tasks) l (u .taken) (r .masks) .1 (r .fits))),
+)
 
--- the edges of a node are just those
+-- the edges of a label are those of its choices, where it is admitted
+pub mem-edgesAt : (P : Plan) (u : Node) (l : ℕ) (e : Edge) → List·Memᴰ e (edgesAt P u l) ↔ EdgeAt P u l e
+unfolding edgesAt
+mem-edgesAt P u l e = mem-edgesTo P u l (nextIn (P .arcs) (u .state) l) e
+
+-- the edges of a node are those of its labels
 pub mem-edges : (P : Plan) (u : Node) (e : Edge) → List·Memᴰ e (edges P u) ↔ EdgeFrom P u e
-unfolding edges edgesAt
+unfolding edges
 mem-edges P u e = (
-  λ h.
-      let r = mem-of-flatMap (edgesAt P u) (upFrom 0 (2 ^ length (P .tasks))) h in
-      let s = in-edgesTo P u (r .0) (nextIn (P .arcs) (u .state) (r .0)) e .0 (r .2) in
+  λ h. let r = mem-of-flatMap (edgesAt P u) (upFrom 0 (2 ^ length (P .tasks))) h in
       record {
         label = r .0;
-        next = s .0;
-        masks = s .1;
         below = omega (arith, mem-of-upFrom 0 (2 ^ length (P .tasks)) (r .1));
-        admitted = s .2;
-        fits = s .3;
-        is = s .4;
+        at = mem-edgesAt P u (r .0) e .0 (r .2);
       },
-  λ r.
-      mem-flatMap (edgesAt P u) (mem-upFrom 0 (2 ^ length (P .tasks)) (omega arith) (omega (arith, r .below)))
-      (in-edgesTo P u (r .label) (nextIn (P .arcs) (u .state) (r .label)) e .1 (r .next, r .masks, r .admitted, r .fits, r .is)),
+  λ r. mem-flatMap (edgesAt P u) (mem-upFrom 0 (2 ^ length (P .tasks)) (omega arith) (omega (arith, r .below)))
+      (mem-edgesAt P u (r .label) e .1 (r .at)),
 )
 
 -- the label and the masks of an edge from a node determine it
@@ -194,9 +205,11 @@ pub edge-determined : (P : Plan) (u : Node) (e e′ : Edge) → List·Memᴰ e (
 unfolding edgeOf
 edge-determined P u e e′ h h′ p q =
     let r = mem-edges P u e .0 h in
-    let s = mem-edges P u e′ .0 h′ in
-    let l : r .label ≡ s .label = sym (ap (λ (d : Edge). d .label) (r .is)) ∙ p ∙ ap (λ (d : Edge). d .label) (s .is) in
-    let m : r .masks ≡ s .masks = sym (ap (λ (d : Edge). d .masks) (r .is)) ∙ q ∙ ap (λ (d : Edge). d .masks) (s .is) in
-    let n : r .next ≡ s .next =
-    Option·some-injective _ _ (sym (r .admitted) ∙ ap (nextIn (P .arcs) (u .state)) l ∙ s .admitted) in
-    r .is ∙ (λ i. edgeOf P u (l i) (n i) (m i)) ∙ sym (s .is)
+    let r′ = mem-edges P u e′ .0 h′ in
+    let s = r .at in
+    let s′ = r′ .at in
+    let l : r .label ≡ r′ .label = sym (ap (λ (d : Edge). d .label) (s .is)) ∙ p ∙ ap (λ (d : Edge). d .label) (s′ .is) in
+    let m : s .masks ≡ s′ .masks = sym (ap (λ (d : Edge). d .masks) (s .is)) ∙ q ∙ ap (λ (d : Edge). d .masks) (s′ .is) in
+    let n : s .next ≡ s′ .next =
+    Option·some-injective (s .next) (s′ .next) (sym (s .admitted) ∙ ap (nextIn (P .arcs) (u .state)) l ∙ s′ .admitted) in
+    s .is ∙ (λ i. edgeOf P u (l i) (n i) (m i)) ∙ sym (s′ .is)

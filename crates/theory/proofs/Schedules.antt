@@ -22,7 +22,7 @@ use Rattle.model.specs.Walk.{Walk, here, go, labels, maskAt, Agrees, TrueToSche
 use Rattle.model.proofs.Lists.{mem-getD, getD-table, length-upFrom}
 use Rattle.theory.proofs.Tests.{is-false, holds, fails, same-test, left-holds, right-holds}
 use Rattle.theory.proofs.Sums.{sum-same, sum-zero}
-use Rattle.theory.proofs.Bits.{bit-half, bit-of-zero, zero-no-bit, bit-past, ones-below, ones-below, no-bit, fromBits, fromBits-lt, bit-fromBits}
+use Rattle.theory.proofs.Bits.{bit-half, zero-no-bit, bit-past, ones-below, no-bit, fromBits, fromBits-lt, bit-fromBits}
 use Rattle.theory.proofs.Edges.{Picked, MaskOf, Fits, mem-edges, joined-bit}
 use Rattle.theory.proofs.Sound.{PlanSound, TaskSound, sound-plan, read-sound, label-below}
 use Rattle.theory.proofs.Walks.{admits-some, walk-admits, walk-kept, walk-ideal, gainOf, gainOf-same, picksOf, maskAt-none, walk-mask, walk-once}
@@ -45,11 +45,15 @@ picked-task ts b i m p =
 released-in : (run : List ℕ) (t i : ℕ) → T (bit (getD run t 0) i) → t < length run
 released-in run t i h =
     by-cases (decLt t (length run)) (λ k. k)
-    (λ k. absurd (fails (ap (λ (n : ℕ). bit n i) (List·getD-eq-default run 0 (omega arith)) ∙ bit-of-zero i) h))
+    (λ k. absurd (zero-no-bit (List·getD-eq-default run 0 (omega arith)) i h))
 
 -- a mask with a bit is not 0
 bit-nonzero : (m k : ℕ) → T (bit m k) → T (not (eqb m 0))
 bit-nonzero m k h = not-T (eqb m 0) (λ e. zero-no-bit (eqb→eq m 0 e) k h)
+
+-- and 0 is
+zero-unpicked : {m : ℕ} → m ≡ 0 → T (not (eqb m 0)) → ⊥
+zero-unpicked {m} e h = T-not (eqb m 0) h (holds (eq-eqb m 0 e))
 
 -- ---- a walk is a schedule
 
@@ -57,11 +61,13 @@ bit-nonzero m k h = not-T (eqb m 0) (λ e. zero-no-bit (eqb→eq m 0 e) k h)
 abbrev givesOf : List Edge → ℕ → ℕ → ℕ → Bool
 givesOf es s t i = leb t s && bit (maskAt es t i) (s - t)
 
+-- counted from the release, the slots are the mask's bits
 gives-at : (es : List Edge) (t i k : ℕ) → givesOf es (t + k) t i ≡ bit (maskAt es t i) k
 gives-at es t i k =
     let e : t + k - t ≡ k = omega arith in
     rw (le-leb t (t + k) (omega arith), e)
 
+-- a slot that is given is one of them
 gives-bit : (es : List Edge) (s t i : ℕ) → T (givesOf es s t i) → (t ≤ s) × T (bit (maskAt es t i) (s - t))
 gives-bit es s t i h = (
   leb→le t s (left-holds (leb t s) (bit (maskAt es t i) (s - t)) h),
@@ -72,11 +78,11 @@ module _ (P : Plan) (sd : PlanSound P) {v : Node} {es : List Edge} (w : Walk P s
   -- a mask that is not 0 fits its task
   picked-at : (t i : ℕ) → T (picksOf es t i) →
       (1 ≤ i) × Picked (taskOf (P .tasks) i) (bit (getD (labels es) t 0) (i - 1)) (maskAt es t i)
-  picked-at t zero h = absurd (T-not (eqb (maskAt es t 0) 0) h (holds (eq-eqb (maskAt es t 0) 0 (maskAt-none es t))))
+  picked-at t zero h = absurd (zero-unpicked (maskAt-none es t) h)
   picked-at t (suc i) h =
       let e : i ≡ suc i - 1 = omega arith in (
         omega arith,
-        ⊎-elim (λ z. absurd (T-not (eqb (maskAt es t (suc i)) 0) h (holds (eq-eqb (maskAt es t (suc i)) 0 z)))) (λ p. p)
+        ⊎-elim (λ z. absurd (zero-unpicked z h)) (λ p. p)
             (subst (λ j. MaskOf (getD (P .tasks) j noTask) (bit (getD (labels es) t 0) j) (maskAt es t (suc i))) e (walk-mask w t i)),
       )
 
@@ -131,6 +137,7 @@ module _ (P : Plan) (sd : PlanSound P) {v : Node} {es : List Edge} (w : Walk P s
 
 -- ---- a schedule is a walk
 
+-- one step more
 suc-add-suc : (t k : ℕ) → suc t + k ≡ t + suc k
 suc-add-suc t k = omega arith
 
@@ -139,6 +146,7 @@ module _ (P : Plan) (sd : PlanSound P) (run : List ℕ) (σ : Schedule P run) wh
   maskOf : ℕ → ℕ → ℕ
   maskOf t i = fromBits (λ k. σ .gives (t + k) t i) (taskOf (P .tasks) i .window)
 
+  -- its bits are the slots given to the job
   mask-bit : (t i k : ℕ) → bit (maskOf t i) k ≡ σ .gives (t + k) t i
   unfolding maskOf
   mask-bit t i k =
@@ -151,25 +159,29 @@ module _ (P : Plan) (sd : PlanSound P) (run : List ℕ) (σ : Schedule P run) wh
   mask-gives : (t i k : ℕ) → T (bit (maskOf t i) k) → T (σ .gives (t + k) t i)
   mask-gives t i k h = subst T (mask-bit t i k) h
 
-  -- the mask is 0 just if the job is not picked
+  -- a job that is not picked has the mask 0
   unpicked : (t i : ℕ) → (T (σ .picks t i) → ⊥) → maskOf t i ≡ 0
   unpicked t i h = no-bit (maskOf t i) (λ k b. h (σ .inWindow (t + k) t i (mask-gives t i k b) .0))
 
+  -- a job that is picked has a sound task
   task-of : (t i : ℕ) → T (σ .picks t i) → TaskSound (taskOf (P .tasks) i)
   task-of t i h = task-sound P sd (i - 1) (omega (arith, σ .released t i h))
 
+  -- the bits of its mask sum to the work
   mask-sum : (t i : ℕ) → T (σ .picks t i) → sum (λ k. one (bit (maskOf t i) k)) (taskOf (P .tasks) i .window) ≡ taskOf (P .tasks) i .work
   mask-sum t i h = sum-same _ _ (taskOf (P .tasks) i .window) (λ k _. ap one (mask-bit t i k)) ∙ σ .whole t i h
 
+  -- so the mask is not 0
   picked-pos : (t i : ℕ) → T (σ .picks t i) → 1 ≤ maskOf t i
   picked-pos t i h = by-cases (decLt 0 (maskOf t i)) (λ k. k) (λ k. absurd (none (omega arith)))
     where
-      none : maskOf t i ≡ 0 → ⊥
-      none z =
-          let zeros : (k : ℕ) → k < taskOf (P .tasks) i .window → one (bit (maskOf t i) k) ≡ 0 =
-          λ k _. ap one (is-false (bit (maskOf t i) k) (zero-no-bit z k)) in
-          omega (arith, task-of t i h .someWork, mask-sum t i h, sum-zero _ (taskOf (P .tasks) i .window) zeros)
+      zeros : maskOf t i ≡ 0 → (k : ℕ) → k < taskOf (P .tasks) i .window → one (bit (maskOf t i) k) ≡ 0
+      zeros z k _ = ap one (is-false (bit (maskOf t i) k) (zero-no-bit z k))
 
+      none : maskOf t i ≡ 0 → ⊥
+      none z = omega (arith, task-of t i h .someWork, mask-sum t i h, sum-zero _ (taskOf (P .tasks) i .window) (zeros z))
+
+  -- a job is picked just where its mask is not 0
   picks-mask : (t i : ℕ) → σ .picks t i ≡ not (eqb (maskOf t i) 0)
   picks-mask t i =
       same-test (σ .picks t i) (not (eqb (maskOf t i) 0))
@@ -178,7 +190,7 @@ module _ (P : Plan) (sd : PlanSound P) (run : List ℕ) (σ : Schedule P run) wh
     where
       go : (b : Bool) → σ .picks t i ≡ b → T (not (eqb (maskOf t i) 0)) → T b
       go true e h = tt
-      go false e h = T-not (eqb (maskOf t i) 0) h (holds (eq-eqb (maskOf t i) 0 (unpicked t i (fails e))))
+      go false e h = zero-unpicked (unpicked t i (fails e)) h
 
   -- the mask fits its task and label
   mask-fits : (t i : ℕ) → MaskOf (taskOf (P .tasks) i) (bit (getD run t 0) (i - 1)) (maskOf t i)
@@ -206,10 +218,12 @@ module _ (P : Plan) (sd : PlanSound P) (run : List ℕ) (σ : Schedule P run) wh
   masksAt : ℕ → List ℕ
   masksAt t = map (λ i. maskOf t (suc i)) (upFrom 0 (length (P .tasks)))
 
+  -- one for each task
   length-masks : (t : ℕ) → length (masksAt t) ≡ length (P .tasks)
   unfolding masksAt
   length-masks t = length-map (upFrom 0 (length (P .tasks))) (λ i. maskOf t (suc i)) ∙ length-upFrom 0 (length (P .tasks))
 
+  -- the mask at a place is that of the task
   masks-at : (t i : ℕ) → getD (masksAt t) i 0 ≡ maskOf t (suc i)
   unfolding masksAt
   masks-at t i =
@@ -217,6 +231,7 @@ module _ (P : Plan) (sd : PlanSound P) (run : List ℕ) (σ : Schedule P run) wh
       (λ h. List·getD-eq-default (masksAt t) 0 (omega (arith, length-masks t))
       ∙ sym (unpicked t (suc i) (λ p. omega (arith, σ .released t (suc i) p .2))))
 
+  -- a slot of it is given to the task's job
   masks-give : (t i k : ℕ) → T (bit (getD (masksAt t) i 0) k) → T (σ .gives (t + k) t (suc i))
   masks-give t i k h = mask-gives t (suc i) k (subst (λ m. T (bit m k)) (masks-at t i) h)
 
@@ -257,6 +272,7 @@ module _ (P : Plan) (sd : PlanSound P) (run : List ℕ) (σ : Schedule P run) wh
   edgeAt : Node → ℕ → ℕ → ℕ → Edge
   edgeAt u l s t = edgeOf P u l s (masksAt t)
 
+  -- it is an edge of the node
   edge-at : (u : Node) (l s t : ℕ) → nextIn (P .arcs) (u .state) l ≡ some s → getD run t 0 ≡ l → Free (u .taken) t →
       List·Memᴰ (edgeAt u l s t) (edges P u)
   unfolding edgeAt
@@ -264,12 +280,8 @@ module _ (P : Plan) (sd : PlanSound P) (run : List ℕ) (σ : Schedule P run) wh
       mem-edges P u (edgeAt u l s t) .1
       (record {
         label = l;
-        next = s;
-        masks = masksAt t;
         below = label-below P sd (u .state) l s next;
-        admitted = next;
-        fits = masks-fit (u .taken) l t e free;
-        is = refl;
+        at = record { next = s; masks = masksAt t; admitted = next; fits = masks-fit (u .taken) l t e free; is = refl };
       })
 
   -- one step, then the rest
@@ -306,6 +318,7 @@ module _ (P : Plan) (sd : PlanSound P) (run : List ℕ) (σ : Schedule P run) wh
       (walk-from ls (suc t) (edgeAt u l (n .0) t .to) (n .2) (λ j. ap (λ k. getD run k 0) (suc-add-suc t j) ∙ same (suc j))
       (free-next (u .taken) t free))
 
+  -- the start has no taken slot
   free-start : Free 0 0
   unfolding Free
   free-start t′ i k h g b = zero-no-bit refl k b
@@ -349,5 +362,6 @@ true-to-schedules P sd = record {
 pub sound-true-to-schedules : (P : Plan) → IsSound P → TrueToSchedules P
 sound-true-to-schedules P s = true-to-schedules P (sound-plan P s)
 
+-- the same, from the bytes
 pub read-true-to-schedules : (bs : List ℕ) (P : Plan) → readPlan bs ≡ sound P → TrueToSchedules P
 read-true-to-schedules bs P h = true-to-schedules P (read-sound bs P h)

@@ -55,6 +55,7 @@ pub record PlanSound (P : Plan) : Type 0 where
 
 -- ---- while it is read
 
+-- what holds of the commands read so far
 record Held (r : Reading) : Type 0 where
   tasksFit : length (r .tasks) ≤ maxTasks
   task : (t : Task) → List·Memᴰ t (r .tasks) → TaskSound t
@@ -66,6 +67,7 @@ record Held (r : Reading) : Type 0 where
   rise : ArcsRise (r .arcs)
   stated : r .ended ≡ true → 1 ≤ r .states
 
+-- at the start
 held-nothing : Held nothingRead
 held-nothing = record {
   tasksFit = omega arith;
@@ -79,6 +81,7 @@ held-nothing = record {
   stated = λ e. absurd (false≢true e);
 }
 
+-- the operands of a task in range
 task-ranged : (c d v : ℕ) → taskInRange c d v ≡ true → TaskSound (record { work = c; window = d; value = v })
 unfolding taskInRange
 task-ranged c d v h =
@@ -94,6 +97,7 @@ task-ranged c d v h =
       valueFits = leb-true v maxValue (value .1);
     }
 
+-- the test of pairs as a fact
 before-of : (a : Arc) (s l t : ℕ) → pairBelow a s l ≡ true → Before a (record { from = s; label = l; to = t })
 before-of a s l t h = go (ltb (a .from) s) refl h
   where
@@ -112,12 +116,15 @@ module _ {ℓ κ} {A : Type ℓ} {B : A → Type κ} where
   all-snoc : (l : List A) (x : A) → ((a : A) → List·Memᴰ a l → B a) → B x → (a : A) → List·Memᴰ a (l ++ (x ∷ [])) → B a
   all-snoc l x h b a m = ⊎-elim (h a) (λ k. subst B (sym (List·Memᴰ·eq-of-singleton k)) b) (List·Memᴰ·append-cases l m)
 
+-- a task more leaves an arc in range
 more-tasks : {m n states : ℕ} {a : Arc} → m ≤ n → ArcSound m states a → ArcSound n states a
 more-tasks h s = record { fromBelow = s .fromBelow; labelBelow = lt-of-lt-of-le (s .labelBelow) (pow-mono h); toBelow = s .toBelow }
 
+-- a known command is one of five
 known-le : (c : ℕ) → unknown c ≡ false → c ≤ 5
 known-le c h = leb-true c 5 (both (leb 1 c) (leb c 5) (not-false (leb 1 c && leb c 5) h) .1)
 
+-- a number that is not 0
 nonzero : (n : ℕ) → not (eqb n 0) ≡ true → 1 ≤ n
 nonzero zero h = absurd (false≢true h)
 nonzero (suc n) h = omega arith
@@ -248,6 +255,7 @@ pub read-sound : (bs : List ℕ) (P : Plan) → readPlan bs ≡ sound P → Plan
 unfolding readPlan readFrom
 read-sound bs P h = sound-read (suc (length bs)) bs nothingRead P held-nothing h
 
+-- the same, from the record of the bytes
 pub sound-plan : (P : Plan) → IsSound P → PlanSound P
 sound-plan P s = read-sound (s .bytes) P (s .read)
 
@@ -275,6 +283,7 @@ label-below P sd s l t h =
     let r = nextIn-arc (P .arcs) s l t h in
     omega (arith, sd .arc (r .0) (r .1) .labelBelow, r .3)
 
+-- the order of arcs goes on
 before-trans : (a b c : Arc) → Before a b → Before b c → Before a c
 before-trans a b c (inl h) (inl k) = inl (omega arith)
 before-trans a b c (inl h) (inr k) = inl (omega arith)

@@ -33,11 +33,12 @@ pub both-hold : (a b : Bool) → T a → T b → T (a && b)
 both-hold true b h k = k
 both-hold false b h k = h
 
--- of two tests that hold together, each does
+-- of two tests that hold together, the first does
 pub left-holds : (a b : Bool) → T (a && b) → T a
 left-holds true b h = tt
 left-holds false b h = h
 
+-- and the second
 pub right-holds : (a b : Bool) → T (a && b) → T b
 right-holds true b h = h
 right-holds false b h = absurd h
@@ -47,10 +48,12 @@ pub or-cases : (a b : Bool) → T (a || b) → T a ⊎ T b
 or-cases true b h = inl tt
 or-cases false b h = inr h
 
+-- the first is enough
 pub or-left : (a b : Bool) → T a → T (a || b)
 or-left true b h = tt
 or-left false b h = absurd h
 
+-- the second is enough
 pub or-right : (a b : Bool) → T b → T (a || b)
 or-right true b h = tt
 or-right false b h = h

@@ -5,7 +5,8 @@ use mathlib.Core.Bool.{Bool, true, false, cond, not}
 use mathlib.Core.Option.{Option, none, some}
 use mathlib.Core.Logic.{inl, inr}
 use mathlib.Core.List.{List, [], _∷_, List·Memᴰ}
-use Prim.Native.Nat.{ℕ, zero, suc, _+_, _-_, _/_, _^_, _<_}
+use Prim.Native.Nat.{ℕ, zero, suc, _+_, _/_, _^_, _<_}
+use native.Mathlib.Nat.{add-sub-cancel}
 use native.Mathlib.Numerals.{add-one}
 use native.Mathlib.Omega.{arith}
 use lib.Dec.{T, eqb}
@@ -30,18 +31,19 @@ pub record Step (P : Plan) (u : Node) (e : Edge) : Type 0 where
   pub kept : e .kept ≡ slot P (u .jobs) (e .label) .gain
   pub ideal : e .ideal ≡ worth (P .tasks) (e .masks)
 
+-- every edge has them
 pub step-of : (P : Plan) (u : Node) (e : Edge) → List·Memᴰ e (edges P u) → Step P u e
 unfolding edgeOf
-step-of P u e h = subst (Step P u) (sym (r .is)) whole
+step-of P u e h = subst (Step P u) (sym (r .at .is)) whole
   where
     r : EdgeFrom P u e
     r = mem-edges P u e .0 h
 
-    whole : Step P u (edgeOf P u (r .label) (r .next) (r .masks))
+    whole : Step P u (edgeOf P u (r .label) (r .at .next) (r .at .masks))
     whole = record {
       below = r .below;
-      admitted = r .admitted;
-      fits = r .fits;
+      admitted = r .at .admitted;
+      fits = r .at .fits;
       jobs = refl;
       taken = refl;
       kept = refl;
@@ -76,9 +78,6 @@ module _ (P : Plan) where
       let s = step-of P u e h in
       ap₂ (λ (a b : ℕ). a + b) (s .kept) (walk-kept w ∙ ap (λ js. gainFrom P js (labels es)) (s .jobs))
 
-add-sub-one : (k : ℕ) → k + 1 - 1 ≡ k
-add-sub-one k = omega arith
-
 -- the clairvoyant's gain of a choice, task by task
 worth-sum : (ts : List Task) (ms : List ℕ) →
     worth ts ms ≡ sum (λ k. cond (not (eqb (getD ms k 0) 0)) (getD ts k noTask .value) 0) (length ts)
@@ -100,6 +99,7 @@ gainOf ts picks n = sum (λ t. sum (λ k. cond (picks t (k + 1)) (taskOf ts (k +
 abbrev pub picksOf : List Edge → ℕ → ℕ → Bool
 picksOf es t i = not (eqb (maskAt es t i) 0)
 
+-- the same picks gain the same
 pub gainOf-same : (ts : List Task) (f g : ℕ → ℕ → Bool) (n : ℕ) → ((t i : ℕ) → f t i ≡ g t i) → gainOf ts f n ≡ gainOf ts g n
 gainOf-same ts f g n h =
     sum-same _ _ n (λ t _. sum-same _ _ (length ts) (λ k _. ap (λ b. cond b (taskOf ts (k + 1) .value) 0) (h t (k + 1))))
@@ -115,7 +115,7 @@ walk-ideal {P} (go {u = u} {e = e} {es = es} h w) =
     shifted : (k : ℕ) → k < length (P .tasks) →
         cond (not (eqb (getD (e .masks) k 0) 0)) (getD (P .tasks) k noTask .value) 0
         ≡ cond (picksOf (e ∷ es) 0 (k + 1)) (taskOf (P .tasks) (k + 1) .value) 0
-    shifted k h = rw (add-sub-one, add-one)
+    shifted k h = rw (add-sub-cancel, add-one)
 
 -- no task is numbered 0
 pub maskAt-none : (es : List Edge) (t : ℕ) → maskAt es t 0 ≡ 0
