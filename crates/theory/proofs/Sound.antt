@@ -13,8 +13,9 @@ use lib.ListN.{length, getD, drop, length-append}
 use lib.Pow.{pow-mono}
 use borrow.Author.Tests.{leb-true, ltb-true, eqb-true, not-false}
 use Rattle.model.specs.Limits.{maxTasks, maxWindow, maxValue, maxStates}
-use Rattle.model.specs.Plan.{Task, Arc, Plan, PlanAnswer, faulty, sound, Reading, nothingRead, isArc, nextIn, unknown, width, mayFollow, taskInRange, inRange, pairBelow, rising, fault, after, refusedOr, atEnd, readCommands, readFrom, readPlan, IsSound}
+use Rattle.model.specs.Plan.{Task, Arc, Plan, PlanAnswer, faulty, sound, Reading, nothingRead, isArc, nextIn, unknown, width, mayFollow, taskInRange, arcInRange, inRange, pairBelow, rising, fault, after, refusedOr, atEnd, readCommands, readFrom, readPlan, IsSound}
 use Rattle.model.specs.Refusals.{bytesEnd}
+use Rattle.model.specs.Cases.{planA}
 use Rattle.model.proofs.Plan.{both, Passes, fault-none, arc-ranged}
 
 -- a task in range: 1 ≤ C ≤ D, within the limits
@@ -299,3 +300,16 @@ rise-at (a ∷ b ∷ as′) d r zero (suc zero) h k = r .0
 rise-at (a ∷ b ∷ as′) d r zero (suc (suc j)) h k =
     before-trans a b (getD as′ j d) (r .0) (rise-at (b ∷ as′) d (r .1) 0 (suc j) (omega arith) (omega arith))
 rise-at (a ∷ b ∷ as′) d r (suc i) (suc j) h k = rise-at (b ∷ as′) d (r .1) i j (omega arith) (omega arith)
+
+-- there are such plans: the bytes of A are read
+pub planA-sound : (P : Plan) × IsSound P
+unfolding readPlan readFrom fault after width mayFollow inRange taskInRange arcInRange
+planA-sound = (
+  record {
+    tasks = record { work = 1; window = 1; value = 1 } ∷ [];
+    policy = 1;
+    states = 1;
+    arcs = record { from = 0; label = 0; to = 0 } ∷ record { from = 0; label = 1; to = 0 } ∷ [];
+  },
+  record { bytes = planA; read = refl },
+)
