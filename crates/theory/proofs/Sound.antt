@@ -1,0 +1,315 @@
+-- What a plan that the reader takes is: its tasks, policy, states and arcs are in range, and the arcs rise.
+-- Assumes nothing.
+use mathlib.Core.Path.{_≡_, refl, sym, subst}
+use mathlib.Core.Bool.{Bool, true, false, cond, not, _&&_, _||_, false≢true}
+use mathlib.Core.Logic.{_⊎_, inl, inr, ⊎-elim}
+use mathlib.Core.Option.{some, Option·none-ne-some, Option·some-injective}
+use mathlib.Core.List.{List, [], _∷_, _++_, List·Memᴰ, List·Memᴰ·head, List·Memᴰ·tail, List·Memᴰ·not-nil, List·Memᴰ·append-cases, List·Memᴰ·eq-of-singleton}
+use Prim.Native.Nat.{ℕ, zero, suc, _+_, _^_, _<_, _≤_}
+use native.Mathlib.Nat.{lt-of-lt-of-le}
+use native.Mathlib.Omega.{arith}
+use lib.Dec.{leb, ltb, eqb}
+use lib.ListN.{length, getD, drop, length-append}
+use lib.Pow.{pow-mono}
+use borrow.Author.Tests.{leb-true, ltb-true, eqb-true, not-false}
+use Rattle.model.specs.Limits.{maxTasks, maxWindow, maxValue, maxStates}
+use Rattle.model.specs.Plan.{Task, Arc, Plan, PlanAnswer, faulty, sound, Reading, nothingRead, isArc, nextIn, unknown, width, mayFollow, taskInRange, arcInRange, inRange, pairBelow, rising, fault, after, refusedOr, atEnd, readCommands, readFrom, readPlan, IsSound}
+use Rattle.model.specs.Refusals.{bytesEnd}
+use Rattle.model.specs.Cases.{planA}
+use Rattle.model.proofs.Plan.{both, Passes, fault-none, arc-ranged}
+
+-- a task in range: 1 ≤ C ≤ D, within the limits
+pub record TaskSound (t : Task) : Type 0 where
+  pub someWork : 1 ≤ t .work
+  pub workFits : t .work ≤ t .window
+  pub windowFits : t .window ≤ maxWindow
+  pub someValue : 1 ≤ t .value
+  pub valueFits : t .value ≤ maxValue
+
+-- "S, T below M, L below 2 to the number of tasks"
+pub record ArcSound (count states : ℕ) (a : Arc) : Type 0 where
+  pub fromBelow : a .from < states
+  pub labelBelow : a .label < 2 ^ count
+  pub toBelow : a .to < states
+
+-- the pair of one arc is below the other's
+abbrev pub Before : Arc → Arc → Type 0
+Before a b = (a .from < b .from) ⊎ ((a .from ≡ b .from) × (a .label < b .label))
+
+-- "pairs (S, L) strictly rising"
+abbrev pub ArcsRise : List Arc → Type 0
+ArcsRise [] = Unit {0}
+ArcsRise (a ∷ []) = Unit {0}
+ArcsRise (a ∷ b ∷ as′) = Before a b × ArcsRise (b ∷ as′)
+
+-- what the reader takes
+pub record PlanSound (P : Plan) : Type 0 where
+  pub someTask : 1 ≤ length (P .tasks)
+  pub tasksFit : length (P .tasks) ≤ maxTasks
+  pub task : (t : Task) → List·Memᴰ t (P .tasks) → TaskSound t
+  pub somePolicy : 1 ≤ P .policy
+  pub policyFits : P .policy ≤ 4
+  pub someState : 1 ≤ P .states
+  pub statesFit : P .states ≤ maxStates
+  pub arc : (a : Arc) → List·Memᴰ a (P .arcs) → ArcSound (length (P .tasks)) (P .states) a
+  pub rise : ArcsRise (P .arcs)
+
+-- ---- while it is read
+
+-- what holds of the commands read so far
+record Held (r : Reading) : Type 0 where
+  tasksFit : length (r .tasks) ≤ maxTasks
+  task : (t : Task) → List·Memᴰ t (r .tasks) → TaskSound t
+  policyFits : r .policy ≤ 4
+  tasked : 1 ≤ r .policy → 1 ≤ length (r .tasks)
+  statesFit : r .states ≤ maxStates
+  policied : 1 ≤ r .states → 1 ≤ r .policy
+  arc : (a : Arc) → List·Memᴰ a (r .arcs) → ArcSound (length (r .tasks)) (r .states) a
+  rise : ArcsRise (r .arcs)
+  stated : r .ended ≡ true → 1 ≤ r .states
+
+-- at the start
+held-nothing : Held nothingRead
+held-nothing = record {
+  tasksFit = omega arith;
+  task = λ t m. absurd (List·Memᴰ·not-nil m);
+  policyFits = omega arith;
+  tasked = omega arith;
+  statesFit = omega arith;
+  policied = omega arith;
+  arc = λ a m. absurd (List·Memᴰ·not-nil m);
+  rise = tt;
+  stated = λ e. absurd (false≢true e);
+}
+
+-- the operands of a task in range
+task-ranged : (c d v : ℕ) → taskInRange c d v ≡ true → TaskSound (record { work = c; window = d; value = v })
+unfolding taskInRange
+task-ranged c d v h =
+    let three = both (leb 1 c && leb c d && leb d maxWindow) (leb 1 v && leb v maxValue) h in
+    let two = both (leb 1 c && leb c d) (leb d maxWindow) (three .0) in
+    let one = both (leb 1 c) (leb c d) (two .0) in
+    let value = both (leb 1 v) (leb v maxValue) (three .1) in
+    record {
+      someWork = leb-true 1 c (one .0);
+      workFits = leb-true c d (one .1);
+      windowFits = leb-true d maxWindow (two .1);
+      someValue = leb-true 1 v (value .0);
+      valueFits = leb-true v maxValue (value .1);
+    }
+
+-- the test of pairs as a fact
+before-of : (a : Arc) (s l t : ℕ) → pairBelow a s l ≡ true → Before a (record { from = s; label = l; to = t })
+before-of a s l t h = go (ltb (a .from) s) refl h
+  where
+    go : (b : Bool) → ltb (a .from) s ≡ b → (b || (eqb (a .from) s && ltb (a .label) l)) ≡ true → Before a (record { from = s; label = l; to = t })
+    go true e k = inl (ltb-true _ _ e)
+    go false e k = let two = both _ _ k in inr (eqb-true _ _ (two .0), ltb-true _ _ (two .1))
+
+-- an arc above the last one keeps them rising
+rise-snoc : (as′ : List Arc) (s l t : ℕ) → ArcsRise as′ → rising as′ s l ≡ true → ArcsRise (as′ ++ (record { from = s; label = l; to = t } ∷ []))
+rise-snoc [] s l t r h = tt
+rise-snoc (a ∷ []) s l t r h = (before-of a s l t h, tt)
+rise-snoc (a ∷ b ∷ as′) s l t r h = (r .0, rise-snoc (b ∷ as′) s l t (r .1) h)
+
+module _ {ℓ κ} {A : Type ℓ} {B : A → Type κ} where
+  -- one element more
+  all-snoc : (l : List A) (x : A) → ((a : A) → List·Memᴰ a l → B a) → B x → (a : A) → List·Memᴰ a (l ++ (x ∷ [])) → B a
+  all-snoc l x h b a m = ⊎-elim (h a) (λ k. subst B (sym (List·Memᴰ·eq-of-singleton k)) b) (List·Memᴰ·append-cases l m)
+
+-- a task more leaves an arc in range
+more-tasks : {m n states : ℕ} {a : Arc} → m ≤ n → ArcSound m states a → ArcSound n states a
+more-tasks h s = record { fromBelow = s .fromBelow; labelBelow = lt-of-lt-of-le (s .labelBelow) (pow-mono h); toBelow = s .toBelow }
+
+-- a known command is one of five
+known-le : (c : ℕ) → unknown c ≡ false → c ≤ 5
+known-le c h = leb-true c 5 (both (leb 1 c) (leb c 5) (not-false (leb 1 c && leb c 5) h) .1)
+
+-- a number that is not 0
+nonzero : (n : ℕ) → not (eqb n 0) ≡ true → 1 ≤ n
+nonzero zero h = absurd (false≢true h)
+nonzero (suc n) h = omega arith
+
+module _ (r : Reading) (held : Held r) (left x y z : ℕ) where
+  -- a command without a fault keeps what is held
+  held-after : (c : ℕ) → Passes r left c x y z → Held (after r c x y z)
+  unfolding after mayFollow inRange
+  held-after zero p = absurd (false≢true (sym (p .known)))
+  held-after (suc zero) p =
+      let two = both (eqb (r .policy) 0) (ltb (length (r .tasks)) maxTasks) (p .follows) in
+      let more : length (r .tasks ++ (record { work = x; window = y; value = z } ∷ [])) ≡ length (r .tasks) + 1 = length-append (r .tasks) (record { work = x; window = y; value = z } ∷ []) in
+      record {
+        tasksFit = omega (arith, ltb-true (length (r .tasks)) maxTasks (two .1));
+        task = all-snoc (r .tasks) (record { work = x; window = y; value = z }) (held .task) (task-ranged x y z (p .ranged));
+        policyFits = held .policyFits;
+        tasked = λ h. omega arith;
+        statesFit = held .statesFit;
+        policied = held .policied;
+        arc = λ a m. more-tasks (omega arith) (held .arc a m);
+        rise = held .rise;
+        stated = λ e. absurd (false≢true e);
+      }
+  held-after (suc (suc zero)) p =
+      let two = both (eqb (r .policy) 0) (not (eqb (length (r .tasks)) 0)) (p .follows) in
+      let range = both (leb 1 x) (leb x 4) (p .ranged) in
+      record {
+        tasksFit = held .tasksFit;
+        task = held .task;
+        policyFits = leb-true x 4 (range .1);
+        tasked = λ h. nonzero (length (r .tasks)) (two .1);
+        statesFit = held .statesFit;
+        policied = λ h. leb-true 1 x (range .0);
+        arc = held .arc;
+        rise = held .rise;
+        stated = λ e. absurd (false≢true e);
+      }
+  held-after (suc (suc (suc zero))) p =
+      let two = both (not (eqb (r .policy) 0)) (eqb (r .states) 0) (p .follows) in
+      let range = both (leb 1 x) (leb x maxStates) (p .ranged) in
+      record {
+        tasksFit = held .tasksFit;
+        task = held .task;
+        policyFits = held .policyFits;
+        tasked = held .tasked;
+        statesFit = leb-true x maxStates (range .1);
+        policied = λ h. nonzero (r .policy) (two .0);
+        arc = λ a m. absurd (omega (arith, held .arc a m .fromBelow, eqb-true (r .states) 0 (two .1)));
+        rise = held .rise;
+        stated = λ e. absurd (false≢true e);
+      }
+  held-after (suc (suc (suc (suc zero)))) p =
+      let range = arc-ranged r 4 x y z refl (p .ranged) in
+      record {
+        tasksFit = held .tasksFit;
+        task = held .task;
+        policyFits = held .policyFits;
+        tasked = held .tasked;
+        statesFit = held .statesFit;
+        policied = held .policied;
+        arc = all-snoc (r .arcs) (record { from = x; label = y; to = z }) (held .arc) (record { fromBelow = range .0; labelBelow = range .1; toBelow = range .2 });
+        rise = rise-snoc (r .arcs) x y z (held .rise) (p .rises);
+        stated = λ e. absurd (false≢true e);
+      }
+  held-after (suc (suc (suc (suc (suc zero))))) p = record {
+    tasksFit = held .tasksFit;
+    task = held .task;
+    policyFits = held .policyFits;
+    tasked = held .tasked;
+    statesFit = held .statesFit;
+    policied = held .policied;
+    arc = held .arc;
+    rise = held .rise;
+    stated = λ e. nonzero (r .states) (p .follows);
+  }
+  held-after (suc (suc (suc (suc (suc (suc c)))))) p = absurd (omega (arith, known-le (suc (suc (suc (suc (suc (suc c)))))) (p .known)))
+
+-- where the commands end, the plan is sound
+sound-end : (r : Reading) (P : Plan) → Held r → atEnd r ≡ sound P → PlanSound P
+sound-end r P held h = go (r .ended) refl h
+  where
+    whole : r .ended ≡ true → PlanSound (record { tasks = r .tasks; policy = r .policy; states = r .states; arcs = r .arcs })
+    whole e = record {
+      someTask = held .tasked (held .policied (held .stated e));
+      tasksFit = held .tasksFit;
+      task = held .task;
+      somePolicy = held .policied (held .stated e);
+      policyFits = held .policyFits;
+      someState = held .stated e;
+      statesFit = held .statesFit;
+      arc = held .arc;
+      rise = held .rise;
+    }
+
+    go : (b : Bool) → r .ended ≡ b →
+        cond b (sound (record { tasks = r .tasks; policy = r .policy; states = r .states; arcs = r .arcs })) (faulty bytesEnd) ≡ sound P →
+        PlanSound P
+    go true e k = subst PlanSound (cc) (whole e)
+    go false e k = let z : _≡_ {A = ℕ} 0 1 = cc in absurd (omega arith)
+
+-- from what is held, what is read on is sound
+sound-read : (n : ℕ) (bs : List ℕ) (r : Reading) (P : Plan) → Held r → readCommands n bs r ≡ sound P → PlanSound P
+sound-read zero bs r P held h = let z : _≡_ {A = ℕ} 0 1 = cc in absurd (omega arith)
+sound-read (suc n) [] r P held h = sound-end r P held h
+sound-read (suc n) (c ∷ bs) r P held h =
+    go (fault r (length (c ∷ bs)) c x y z) refl h
+    (λ p. sound-read n (drop (width c) (c ∷ bs)) (after r c x y z) P (held-after r held (length (c ∷ bs)) x y z c p))
+  where
+    x : ℕ
+    x = getD bs 0 0
+
+    y : ℕ
+    y = getD bs 1 0
+
+    z : ℕ
+    z = getD bs 2 0
+
+    rest : PlanAnswer
+    rest = readCommands n (drop (width c) (c ∷ bs)) (after r c x y z)
+
+    go : (f : ℕ) → fault r (length (c ∷ bs)) c x y z ≡ f → refusedOr f rest ≡ sound P →
+        (Passes r (length (c ∷ bs)) c x y z → rest ≡ sound P → PlanSound P) → PlanSound P
+    go zero e k later = later (fault-none r (length (c ∷ bs)) c x y z e) k
+    go (suc f) e k later = let z : _≡_ {A = ℕ} 0 1 = cc in absurd (omega arith)
+
+-- a plan that the reader takes is sound
+pub read-sound : (bs : List ℕ) (P : Plan) → readPlan bs ≡ sound P → PlanSound P
+unfolding readPlan readFrom
+read-sound bs P h = sound-read (suc (length bs)) bs nothingRead P held-nothing h
+
+-- the same, from the record of the bytes
+pub sound-plan : (P : Plan) → IsSound P → PlanSound P
+sound-plan P s = read-sound (s .bytes) P (s .read)
+
+-- ---- what the rest uses
+
+-- a label that leads on is an arc's
+pub nextIn-arc : (as′ : List Arc) (s l t : ℕ) → nextIn as′ s l ≡ some t →
+    (a : Arc) × List·Memᴰ a as′ × (a .from ≡ s) × (a .label ≡ l) × (a .to ≡ t)
+nextIn-arc [] s l t h = absurd (Option·none-ne-some t h)
+nextIn-arc (a ∷ as′) s l t h = go (isArc s l a) refl h (nextIn-arc as′ s l t)
+  where
+    Found : List Arc → Type 0
+    Found bs = (b : Arc) × List·Memᴰ b bs × (b .from ≡ s) × (b .label ≡ l) × (b .to ≡ t)
+
+    go : (b : Bool) → isArc s l a ≡ b → cond b (some (a .to)) (nextIn as′ s l) ≡ some t →
+        (nextIn as′ s l ≡ some t → Found as′) → Found (a ∷ as′)
+    go true e k later =
+        let two = both (eqb (a .from) s) (eqb (a .label) l) e in
+        (a, List·Memᴰ·head refl, eqb-true _ _ (two .0), eqb-true _ _ (two .1), Option·some-injective _ _ k)
+    go false e k later = let r = later k in (r .0, List·Memᴰ·tail (r .1), r .2, r .3, r .4)
+
+-- an admitted label is below 2 to the number of tasks
+pub label-below : (P : Plan) → PlanSound P → (s l t : ℕ) → nextIn (P .arcs) s l ≡ some t → l < 2 ^ length (P .tasks)
+label-below P sd s l t h =
+    let r = nextIn-arc (P .arcs) s l t h in
+    omega (arith, sd .arc (r .0) (r .1) .labelBelow, r .3)
+
+-- the order of arcs goes on
+before-trans : (a b c : Arc) → Before a b → Before b c → Before a c
+before-trans a b c (inl h) (inl k) = inl (omega arith)
+before-trans a b c (inl h) (inr k) = inl (omega arith)
+before-trans a b c (inr h) (inl k) = inl (omega arith)
+before-trans a b c (inr h) (inr k) = inr (omega arith)
+
+-- of arcs that rise, an earlier one is before a later one
+pub rise-at : (as′ : List Arc) (d : Arc) → ArcsRise as′ → (i j : ℕ) → i < j → j < length as′ → Before (getD as′ i d) (getD as′ j d)
+rise-at [] d r i j h k = absurd (omega arith)
+rise-at (a ∷ []) d r i j h k = absurd (omega arith)
+rise-at (a ∷ b ∷ as′) d r i zero h k = absurd (omega arith)
+rise-at (a ∷ b ∷ as′) d r zero (suc zero) h k = r .0
+rise-at (a ∷ b ∷ as′) d r zero (suc (suc j)) h k =
+    before-trans a b (getD as′ j d) (r .0) (rise-at (b ∷ as′) d (r .1) 0 (suc j) (omega arith) (omega arith))
+rise-at (a ∷ b ∷ as′) d r (suc i) (suc j) h k = rise-at (b ∷ as′) d (r .1) i j (omega arith) (omega arith)
+
+-- there are such plans: the bytes of A are read
+pub planA-sound : (P : Plan) × IsSound P
+unfolding readPlan readFrom fault after width mayFollow inRange taskInRange arcInRange
+planA-sound = (
+  record {
+    tasks = record { work = 1; window = 1; value = 1 } ∷ [];
+    policy = 1;
+    states = 1;
+    arcs = record { from = 0; label = 0; to = 0 } ∷ record { from = 0; label = 1; to = 0 } ∷ [];
+  },
+  record { bytes = planA; read = refl },
+)

@@ -1,0 +1,59 @@
+-- Tests as facts and back.
+-- Assumes nothing.
+use mathlib.Core.Path.{_≡_, refl, sym, subst}
+use mathlib.Core.Bool.{Bool, true, false, _&&_, _||_}
+use mathlib.Core.Logic.{_⊎_, inl, inr}
+use lib.Dec.{T}
+
+-- a test that holds is true
+pub is-true : (b : Bool) → T b → b ≡ true
+is-true true h = refl
+is-true false h = absurd h
+
+-- a test that fails is false
+pub is-false : (b : Bool) → (T b → ⊥) → b ≡ false
+is-false true h = absurd (h tt)
+is-false false h = refl
+
+-- a true test holds
+pub holds : {b : Bool} → b ≡ true → T b
+holds e = subst T (sym e) tt
+
+-- a false test does not hold
+pub fails : {b : Bool} → b ≡ false → T b → ⊥
+fails e h = subst T e h
+
+-- two tests that imply each other are equal
+pub same-test : (a b : Bool) → (T a → T b) → (T b → T a) → a ≡ b
+same-test true b f g = sym (is-true b (f tt))
+same-test false b f g = sym (is-false b g)
+
+-- both tests hold
+pub both-hold : (a b : Bool) → T a → T b → T (a && b)
+both-hold true b h k = k
+both-hold false b h k = h
+
+-- of two tests that hold together, the first does
+pub left-holds : (a b : Bool) → T (a && b) → T a
+left-holds true b h = tt
+left-holds false b h = h
+
+-- and the second
+pub right-holds : (a b : Bool) → T (a && b) → T b
+right-holds true b h = h
+right-holds false b h = absurd h
+
+-- one of two tests holds
+pub or-cases : (a b : Bool) → T (a || b) → T a ⊎ T b
+or-cases true b h = inl tt
+or-cases false b h = inr h
+
+-- the first is enough
+pub or-left : (a b : Bool) → T a → T (a || b)
+or-left true b h = tt
+or-left false b h = absurd h
+
+-- the second is enough
+pub or-right : (a b : Bool) → T b → T (a || b)
+or-right true b h = tt
+or-right false b h = h
