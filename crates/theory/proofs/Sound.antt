@@ -13,7 +13,7 @@ use lib.ListN.{length, getD, drop, length-append}
 use lib.Pow.{pow-mono}
 use borrow.Author.Tests.{leb-true, ltb-true, eqb-true, not-false}
 use Rattle.model.specs.Limits.{maxTasks, maxWindow, maxValue, maxStates}
-use Rattle.model.specs.Plan.{Task, Arc, Plan, PlanAnswer, faulty, sound, Reading, nothingRead, isArc, nextIn, unknown, width, mayFollow, taskInRange, arcInRange, inRange, pairBelow, rising, fault, after, refusedOr, atEnd, readCommands, readFrom, readPlan, IsSound}
+use Rattle.model.specs.Plan.{Task, Arc, Plan, PlanAnswer, faulty, sound, Reading, nothingRead, isArc, nextIn, unknown, width, mayFollow, taskInRange, arcInRange, inRange, pairBelow, rising, firstFault, fault, after, refusedOr, atEnd, readCommands, readFrom, readPlan, IsSound}
 use Rattle.model.specs.Refusals.{bytesEnd}
 use Rattle.model.specs.Cases.{planA}
 use Rattle.model.proofs.Plan.{both, Passes, fault-none, arc-ranged}
@@ -130,9 +130,9 @@ nonzero : (n : ℕ) → not (eqb n 0) ≡ true → 1 ≤ n
 nonzero zero h = absurd (false≢true h)
 nonzero (suc n) h = omega arith
 
-module _ (r : Reading) (held : Held r) (left x y z : ℕ) where
+module _ (r : Reading) (held : Held r) (x y z : ℕ) where
   -- a command without a fault keeps what is held
-  held-after : (c : ℕ) → Passes r left c x y z → Held (after r c x y z)
+  held-after : (c : ℕ) → Passes r c x y z → Held (after r c x y z)
   unfolding after mayFollow inRange
   held-after zero p = absurd (false≢true (sym (p .known)))
   held-after (suc zero) p =
@@ -232,7 +232,7 @@ sound-read zero bs r P held h = let z : _≡_ {A = ℕ} 0 1 = cc in absurd (omeg
 sound-read (suc n) [] r P held h = sound-end r P held h
 sound-read (suc n) (c ∷ bs) r P held h =
     go (fault r (length (c ∷ bs)) c x y z) refl h
-    (λ p. sound-read n (drop (width c) (c ∷ bs)) (after r c x y z) P (held-after r held (length (c ∷ bs)) x y z c p))
+    (λ p. sound-read n (drop (width c) (c ∷ bs)) (after r c x y z) P (held-after r held x y z c p))
   where
     x : ℕ
     x = getD bs 0 0
@@ -247,8 +247,8 @@ sound-read (suc n) (c ∷ bs) r P held h =
     rest = readCommands n (drop (width c) (c ∷ bs)) (after r c x y z)
 
     go : (f : ℕ) → fault r (length (c ∷ bs)) c x y z ≡ f → refusedOr f rest ≡ sound P →
-        (Passes r (length (c ∷ bs)) c x y z → rest ≡ sound P → PlanSound P) → PlanSound P
-    go zero e k later = later (fault-none r (length (c ∷ bs)) c x y z e) k
+        (Passes r c x y z → rest ≡ sound P → PlanSound P) → PlanSound P
+    go zero e k later = later (fault-none r (length (c ∷ bs)) c x y z e .0) k
     go (suc f) e k later = let z : _≡_ {A = ℕ} 0 1 = cc in absurd (omega arith)
 
 -- a plan that the reader takes is sound
@@ -303,7 +303,7 @@ rise-at (a ∷ b ∷ as′) d r (suc i) (suc j) h k = rise-at (b ∷ as′) d (r
 
 -- there are such plans: the bytes of A are read
 pub planA-sound : (P : Plan) × IsSound P
-unfolding readPlan readFrom fault after width mayFollow inRange taskInRange arcInRange
+unfolding readPlan readFrom firstFault fault after width mayFollow inRange taskInRange arcInRange
 planA-sound = (
   record {
     tasks = record { work = 1; window = 1; value = 1 } ∷ [];
