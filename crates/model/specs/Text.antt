@@ -10,10 +10,10 @@ use Rattle.model.specs.Trace.{TraceAnswer, traced}
 
 -- "Numbers are decimal." Each turn takes a digit, so as many turns as the number are enough.
 abbrev pub digitsIn : ℕ → ℕ → List ℕ
-digitsIn zero n = (n + 48) ∷ []
+digitsIn zero n = (48 + n) ∷ []
 digitsIn (suc k) n =
-    let more = digitsIn k (n / 10) ++ ((n % 10 + 48) ∷ []) in
-    cond (ltb n 10) ((n + 48) ∷ []) more
+    let more = digitsIn k (n / 10) ++ ((48 + n % 10) ∷ []) in
+    cond (ltb n 10) ((48 + n) ∷ []) more
 
 unfoldable pub decimal : ℕ → List ℕ
 decimal n = digitsIn n n

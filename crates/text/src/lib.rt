@@ -1,0 +1,40 @@
+// Numbers and lines as text, written into lent bytes.
+ghost use mathlib.Core.Path.{_≡_};
+ghost use Prim.Native.Nat.{_+_, _≤_};
+ghost use lib.ListN.{length};
+ghost use Rattle.model.specs.Bytes.{overwrite};
+ghost use Rattle.model.specs.Text.{decimal, refusedLine};
+ghost use Rattle.text.specs.Put.{Put};
+
+// Writes some bytes at a place, and answers the place after them.
+pub fn put_bytes(out: &mut [u8], at: usize, bytes: &[u8]) -> usize
+    requires { ⌜ at + length (now bytes) ≤ length (now out) ⌝ }
+    ensures { λ r. ⌜ Put (now (out .entry)) (now (out .exit)) at (now (bytes .entry)) r ⌝ }
+{
+    let n = bytes.len();
+    words::copy(bytes, 0, out, at, n);
+    at + n
+}
+
+// Writes n in decimal at a place, and answers the place after it.
+pub fn put_number(out: &mut [u8], at: usize, n: u64) -> usize
+    requires { ⌜ at + 20 ≤ length (now out) ⌝ }
+    ensures { λ r. ⌜ Put (now (out .entry)) (now (out .exit)) at (decimal n) r ⌝ }
+    ensures { λ r. ⌜ r ≤ at + 20 ⌝ }
+{
+    let mut digits = [0u8; 20];
+    let k = io::decimal(n, &mut digits);
+    words::copy(&digits[..k], 0, out, at, k);
+    at + k
+}
+
+// Writes the line of a refusal, and answers its length.
+pub fn put_refusal(out: &mut [u8], n: u64) -> usize
+    requires { ⌜ 29 ≤ length (now out) ⌝ }
+    ensures { λ r. ⌜ Put (now (out .entry)) (now (out .exit)) 0 (refusedLine n) r ⌝ }
+    ensures { λ r. ⌜ r ≤ 29 ⌝ }
+{
+    let word = put_bytes(out, 0, b"refused ");
+    let number = put_number(out, word, n);
+    put_bytes(out, number, b"\n")
+}
