@@ -43,6 +43,20 @@ pub enum Fault {
     OutOfRange,
 }
 
+impl Fault {
+    // The number of the refusal.
+    pub fn number(self) -> u64
+        ensures { λ r. ⌜ r ≡ faultNumber self ⌝ }
+    {
+        match self {
+            Fault::BytesEnd => 1,
+            Fault::UnknownCommand => 2,
+            Fault::OutOfPlace => 3,
+            Fault::OutOfRange => 4,
+        }
+    }
+}
+
 pub enum Outcome {
     Sound,
     Faulty(Fault),
