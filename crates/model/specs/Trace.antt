@@ -8,7 +8,7 @@ use lib.ListN.{length}
 use Rattle.model.specs.Limits.{maxLabels, traceRoom}
 use Rattle.model.specs.Refusals.{shortMemory, tooManyLabels, notAdmitted}
 use Rattle.model.specs.Lists.{flatMap}
-use Rattle.model.specs.Bytes.{bytes}
+use Rattle.model.specs.Bytes.{bytes, overwrite}
 use Rattle.model.specs.Plan.{Plan, PlanAnswer, faulty, sound, readPlan, nextIn}
 use Rattle.model.specs.Slot.{Job, Done, slot}
 
@@ -49,3 +49,8 @@ trace plan labels lent =
 -- "each label's task in one byte, its gain in two, most significant first"
 unfoldable pub traceBytes : List Done → List ℕ
 traceBytes ds = flatMap (λ d. d .ran ∷ bytes 2 (d .gain)) ds
+
+-- "A refusal gives its number, and the output bytes keep what they had; so do those past the last one written when a call succeeds."
+unfoldable pub outputAfter : TraceAnswer → List ℕ → List ℕ
+outputAfter (refused n) before = before
+outputAfter (traced ds) before = overwrite before 0 (traceBytes ds)

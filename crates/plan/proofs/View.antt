@@ -1,9 +1,10 @@
 -- Laws of what the reader's structs stand for: the tasks and the table of next states.
 -- Assumes nothing.
 use mathlib.Core.Path.{_≡_, refl, sym, ap, ap₂, _∙_}
-use mathlib.Core.Bool.{Bool, true, false, _&&_, _||_}
+use mathlib.Core.Bool.{Bool, true, false, cond, _&&_, _||_, and-false}
 use mathlib.Core.List.{List, [], _∷_, _++_, map, append-nil}
 use mathlib.Core.Logic.{_≢_}
+use mathlib.Core.Option.{Option, none, some}
 use Prim.Native.Nat.{ℕ, zero, suc, _+_, _-_, _*_, _/_, _%_, _≤_, _<_}
 use native.Mathlib.Nat.{add-zero, add-suc, add-sub-of-le, suc-inj, suc-ne-zero}
 use native.Mathlib.Omega.{arith}
@@ -11,11 +12,11 @@ use borrow.Author.Tests.{lt-ltb, le-ltb, le-leb, lt-leb, eq-eqb, ne-eqb, ltb-tru
 use lib.Dec.{leb, ltb, eqb, leb·zero}
 use lib.ListN.{length, getD, take, set, length-map, length-set}
 use lib.Seq.{length-take-le, getD-set-same, getD-set-other}
-use Rattle.model.specs.Limits.{maxTasks}
-use Rattle.model.specs.Plan.{Arc, rising, pairBelow}
+use Rattle.model.specs.Limits.{maxTasks, maxStates}
+use Rattle.model.specs.Plan.{Arc, isArc, nextIn, rising, pairBelow}
 use Rattle.model.proofs.Plan.{rising-last}
 use Rattle.plan.specs.declared.Reading.{Reading}
-use Rattle.plan.specs.View.{taskOf, tasksOf, labelCount, pairCount, arcAt, arcsBelow, arcsIn, Within, Least, Holds}
+use Rattle.plan.specs.View.{taskOf, tasksOf, labelCount, pairCount, arcAt, arcsBelow, arcsIn, nextOf, Within, Least, Holds}
 
 -- as many tasks as the count says
 pub task-count : (r : Reading) → Within r → length (tasksOf (r .tasks) (r .count)) ≡ r .count
@@ -85,3 +86,86 @@ module _ (next : List ℕ) (least k t : ℕ) (h : Holds next least) (rises : lea
       ∙ ap₂ (λ (as′ : List Arc) (v : ℕ). as′ ++ arcAt k v) (arcs-set next k (suc t) k (omega arith)) stored
       ∙ ap (λ (as′ : List Arc). as′ ++ (arcOf k t ∷ []))
       (ap (arcsBelow next) (sym (add-sub-of-le rises)) ∙ arcs-above next least (k - least) (h .above) ∙ sym (arcs-held next least h))
+
+-- ---- the next state
+
+abbrev orElse : Option ℕ → Option ℕ → Option ℕ
+orElse none b = b
+orElse (some t) b = some t
+
+orElse-none : (a : Option ℕ) → orElse a none ≡ a
+orElse-none none = refl
+orElse-none (some t) = refl
+
+-- a label is looked up among the first arcs, then among the others
+next-append : (as′ bs : List Arc) (s l : ℕ) → nextIn (as′ ++ bs) s l ≡ orElse (nextIn as′ s l) (nextIn bs s l)
+next-append [] bs s l = refl
+next-append (a ∷ as′) bs s l = go (isArc s l a) (next-append as′ bs s l)
+  where
+    go : (b : Bool) → nextIn (as′ ++ bs) s l ≡ orElse (nextIn as′ s l) (nextIn bs s l) →
+        cond b (some (a .to)) (nextIn (as′ ++ bs) s l) ≡ orElse (cond b (some (a .to)) (nextIn as′ s l)) (nextIn bs s l)
+    go true h = refl
+    go false h = h
+
+-- a pair is told by its place
+pair-place : (n s l : ℕ) → l < labelCount → (eqb (n / labelCount) s && eqb (n % labelCount) l) ≡ eqb n (s * labelCount + l)
+pair-place n s l h = go (eqb (n / labelCount) s) (eqb (n % labelCount) l) refl refl
+  where
+    go : (a b : Bool) → eqb (n / labelCount) s ≡ a → eqb (n % labelCount) l ≡ b → (a && b) ≡ eqb n (s * labelCount + l)
+    go true true p q = sym (eq-eqb n (s * labelCount + l) (omega (arith, eqb-true)))
+    go true false p q = sym (ne-eqb n (s * labelCount + l) (λ e. eqb-false (n % labelCount) l q (omega arith)))
+    go false b p q = sym (ne-eqb n (s * labelCount + l) (λ e. eqb-false (n / labelCount) s p (omega arith)))
+
+cond-same : (b : Bool) (o : Option ℕ) → o ≡ cond b o o
+cond-same true o = refl
+cond-same false o = refl
+
+next-at : (n v s l : ℕ) → l < labelCount → nextIn (arcAt n v) s l ≡ cond (eqb n (s * labelCount + l)) (nextOf v) none
+next-at n zero s l h = cond-same (eqb n (s * labelCount + l)) none
+next-at n (suc t) s l h = ap (λ (b : Bool). cond b (some t) none) (pair-place n s l h)
+
+-- a pair's entry is its next state
+next-below : (next : List ℕ) (n s l : ℕ) → l < labelCount →
+    nextIn (arcsBelow next n) s l ≡ cond (ltb (s * labelCount + l) n) (nextOf (getD next (s * labelCount + l) 0)) none
+next-below next zero s l h = ap (λ (b : Bool). cond b (nextOf (getD next (s * labelCount + l) 0)) none) (sym (le-ltb (s * labelCount + l) 0 (omega arith)))
+next-below next (suc n) s l h =
+    next-append (arcsBelow next n) (arcAt n (getD next n 0)) s l
+    ∙ ap₂ orElse (next-below next n s l h) (next-at n (getD next n 0) s l h)
+    ∙ go (ltb k n) (eqb n k) (ltb k (suc n)) refl refl refl
+  where
+    k : ℕ
+    k = s * labelCount + l
+
+    go : (a b c : Bool) → ltb k n ≡ a → eqb n k ≡ b → ltb k (suc n) ≡ c →
+        orElse (cond a (nextOf (getD next k 0)) none) (cond b (nextOf (getD next n 0)) none) ≡ cond c (nextOf (getD next k 0)) none
+    go true true c p q r = absurd (omega (arith, ltb-true, eqb-true))
+    go true false true p q r = orElse-none (nextOf (getD next k 0))
+    go true false false p q r = absurd (omega (arith, ltb-true, ltb-false))
+    go false true true p q r = ap (λ (i : ℕ). nextOf (getD next i 0)) (eqb-true _ _ q)
+    go false true false p q r = absurd (omega (arith, ltb-false, eqb-true))
+    go false false true p q r = absurd (eqb-false n k q (omega (arith, ltb-false, ltb-true)))
+    go false false false p q r = refl
+
+pub next-in-table : (next : List ℕ) (s l : ℕ) → s < maxStates → l < labelCount → nextIn (arcsIn next) s l ≡ nextOf (getD next (s * labelCount + l) 0)
+unfolding arcsIn
+next-in-table next s l hs hl =
+    next-below next pairCount s l hl
+    ∙ ap (λ (b : Bool). cond b (nextOf (getD next (s * labelCount + l) 0)) none) (lt-ltb (s * labelCount + l) pairCount (omega arith))
+
+-- a label past the table's is not admitted
+next-past : (next : List ℕ) (n s l : ℕ) → labelCount ≤ l → nextIn (arcsBelow next n) s l ≡ none
+next-past next zero s l h = refl
+next-past next (suc n) s l h =
+    next-append (arcsBelow next n) (arcAt n (getD next n 0)) s l
+    ∙ ap₂ orElse (next-past next n s l h) (here (getD next n 0))
+  where
+    no : (eqb (n / labelCount) s && eqb (n % labelCount) l) ≡ false
+    no = ap (λ (b : Bool). eqb (n / labelCount) s && b) (ne-eqb (n % labelCount) l (omega arith)) ∙ and-false (eqb (n / labelCount) s)
+
+    here : (v : ℕ) → nextIn (arcAt n v) s l ≡ none
+    here zero = refl
+    here (suc t) = ap (λ (b : Bool). cond b (some t) none) no
+
+pub next-past-table : (next : List ℕ) (s l : ℕ) → labelCount ≤ l → nextIn (arcsIn next) s l ≡ none
+unfolding arcsIn
+next-past-table next s l h = next-past next pairCount s l h

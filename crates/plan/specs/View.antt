@@ -2,6 +2,7 @@
 use mathlib.Core.Path.{_≡_}
 use mathlib.Core.Bool.{Bool, false}
 use mathlib.Core.List.{List, [], _∷_, _++_, map}
+use mathlib.Core.Option.{Option, none, some}
 use Prim.Native.Nat.{ℕ, zero, suc, _+_, _*_, _/_, _%_, _^_, _<_, _≤_}
 use lib.Dec.{leb}
 use lib.ListN.{length, getD, take}
@@ -54,6 +55,11 @@ arcsBelow next (suc n) = arcsBelow next n ++ arcAt n (getD next n 0)
 
 unfoldable pub arcsIn : List ℕ → List model.Arc
 arcsIn next = arcsBelow next pairCount
+
+-- the next state that an entry of the table stands for
+abbrev pub nextOf : ℕ → Option ℕ
+nextOf zero = none
+nextOf (suc t) = some t
 
 abbrev pub planOf : Plan → model.Plan
 planOf p = record { tasks = tasksOf (p .tasks) (p .count); policy = p .policy; states = p .states; arcs = arcsIn (p .next) }

@@ -3,9 +3,9 @@ ghost use mathlib.Core.Path.{_≡_};
 ghost use Prim.Native.Nat.{ℕ, _+_, _*_, _^_, _<_, _≤_};
 ghost use mathlib.Core.List.{List};
 ghost use lib.ListN.{length, getD, replicate};
-ghost use Rattle.model.specs.Plan.{Arc, width, mayFollow, between, taskInRange, arcInRange, inRange, pairRises, firstFault, fault, after, readPlan};
-ghost use Rattle.model.specs.Limits.{maxTasks};
-ghost use Rattle.plan.specs.View.{faultNumber, checkNumber, answerOf, answerWith, planRead, readingOf, nothingReadWith, arcsIn, labelCount, pairCount, Within, Least, Holds, Readable, ReadableArc, Reads, ReadsAside};
+ghost use Rattle.model.specs.Plan.{Arc, nextIn, width, mayFollow, between, taskInRange, arcInRange, inRange, pairRises, firstFault, fault, after, readPlan};
+ghost use Rattle.model.specs.Limits.{maxTasks, maxStates};
+ghost use Rattle.plan.specs.View.{faultNumber, checkNumber, answerOf, answerWith, planRead, readingOf, nothingReadWith, arcsIn, nextOf, labelCount, pairCount, Within, Least, Holds, Readable, ReadableArc, Reads, ReadsAside};
 
 const MAX_TASKS: usize = 4;
 
@@ -185,6 +185,18 @@ pub fn pair(s: u8, l: u8) -> usize
     ensures { λ r. ⌜ r ≡ s * labelCount + l ⌝ }
 {
     LABELS * s as usize + l as usize
+}
+
+// The next state and 1, or 0 where the label is not admitted in the state.
+pub fn next_state(next: &[u8; 256], s: u8, l: u8) -> u8
+    requires { ⌜ s < maxStates ⌝ }
+    ensures { λ r. ⌜ nextOf r ≡ nextIn (arcsIn (now (next .entry))) s l ⌝ }
+{
+    if LABELS <= l as usize {
+        return 0;
+    }
+    let at = pair(s, l);
+    next[at]
 }
 
 // Whether an arc's pair rises above those before it; no other command has one.
