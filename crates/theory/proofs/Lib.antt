@@ -5,3 +5,6 @@ pub mod Edges
 pub mod Sound
 pub mod Walks
 pub mod Schedules
+pub mod Distinct
+pub mod Cycles
+pub mod Nodes
