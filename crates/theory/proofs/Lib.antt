@@ -8,3 +8,8 @@ pub mod Schedules
 pub mod Distinct
 pub mod Cycles
 pub mod Nodes
+pub mod Costs
+pub mod Potentials
+pub mod Steps
+pub mod Accepted
+pub mod Claim
