@@ -13,3 +13,4 @@ pub mod Potentials
 pub mod Steps
 pub mod Accepted
 pub mod Claim
+pub mod Distances
