@@ -14,3 +14,4 @@ pub mod Steps
 pub mod Accepted
 pub mod Claim
 pub mod Distances
+pub mod Examples
