@@ -15,3 +15,4 @@ pub mod Accepted
 pub mod Claim
 pub mod Distances
 pub mod Examples
+pub mod Written

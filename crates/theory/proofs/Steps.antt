@@ -40,7 +40,7 @@ pub record Followed (P : Plan) (r r′ : Reached) : Type 0 where
   pub gains : r′ .ideal ≡ r .ideal + ideal path
 
 -- where the steps after an edge lead
-abbrev after : Reached → Edge → Reached
+abbrev pub after : Reached → Edge → Reached
 after r e = record { at = e .to; kept = r .kept + e .kept; ideal = r .ideal + e .ideal }
 
 -- no step
