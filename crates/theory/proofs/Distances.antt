@@ -53,16 +53,22 @@ module _ (p q : ℕ) where
           subst (λ x. φ v ≤ℤ x) (ap (λ x. x +ℤ cost p q fs) zero-at ∙ +ℤ-idl (cost p q fs)) (feasible-walk p q φ c f m k);
     }
 
+-- the potentials are the smallest costs, by the nodes' numbers
+abbrev pub AllSmallest : Plan → ℕ → ℕ → List ℤ → Type 0
+AllSmallest P p q zs = (i : ℕ) → i < length (nodes P) → Smallest P p q (getD (nodes P) i start) (potentialAt zs i)
+
 module _ (P : Plan) (fits : tooLarge P ≡ false) (p q : ℕ) (zs : List ℤ) where
-  -- by the nodes' numbers: smallest costs pass the test of edges
-  pub smallest-pass : ((i : ℕ) → i < length (nodes P) → Smallest P p q (getD (nodes P) i start) (potentialAt zs i)) →
-      edgesOkFrom P (nodes P) p q zs 0 (nodes P) ≡ true
+  -- the same by the nodes
+  pub smallest-at : AllSmallest P p q zs → (v : Node) → List·Memᴰ v (nodes P) → Smallest P p q v (potentialOf (nodes P) zs v)
+  smallest-at s v m =
+      let r = number-at (nodes P) v start m in
+      subst (λ u. Smallest P p q u (potentialOf (nodes P) zs v)) (r .1) (s (numberIn (nodes P) v) (r .0))
+
+  -- smallest costs pass the test of edges
+  pub smallest-pass : AllSmallest P p q zs → edgesOkFrom P (nodes P) p q zs 0 (nodes P) ≡ true
   smallest-pass s =
       feasible-pass P (nodes P) p q zs (nodes-distinct P)
-      (smallest-feasible p q (potentialOf (nodes P) zs) (nodes-closed P fits)
-      (λ v m.
-      let r = number-at (nodes P) v start m in
-      subst (λ u. Smallest P p q u (potentialOf (nodes P) zs v)) (r .1) (s (numberIn (nodes P) v) (r .0))))
+      (smallest-feasible p q (potentialOf (nodes P) zs) (nodes-closed P fits) (smallest-at s))
 
   -- and potentials that pass it and that walks attain, from 0 at the start, are smallest
   pub pass-smallest : edgesOkFrom P (nodes P) p q zs 0 (nodes P) ≡ true → potentialAt zs 0 ≡ pos 0 →

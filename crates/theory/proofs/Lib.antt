@@ -16,3 +16,6 @@ pub mod Claim
 pub mod Distances
 pub mod Examples
 pub mod Written
+pub mod Short
+pub mod Gains
+pub mod Solved
