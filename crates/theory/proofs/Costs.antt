@@ -2,9 +2,8 @@
 -- Assumes nothing.
 use mathlib.Core.Path.{_≡_, sym, _∙_, ap, ap₂, subst}
 use mathlib.Core.List.{List, [], _∷_, _++_, List·Memᴰ}
-use Prim.Native.Nat.{ℕ, _+_, _*_}
+use Prim.Native.Nat.{ℕ, _*_}
 use native.Mathlib.Nat.{mul-add, mul-zero}
-use native.Mathlib.Omega.{arith}
 use lib.IntN.{ℤ, pos, _+ℤ_, _-ℤ_, +ℤ-idr, +ℤ-assoc}
 use lib.Signed.{_≤ℤ_, ≤ℤ-refl}
 use Rattle.model.specs.Plan.{Plan}
@@ -12,15 +11,10 @@ use Rattle.model.specs.Graph.{Node, Edge, edges}
 use Rattle.model.specs.Walk.{Walk, here, go, kept, ideal}
 use Rattle.model.specs.Check.{weight}
 use Rattle.model.specs.Solve.{cost}
-use Rattle.words.proofs.Signed.{up-add, up-sub, nat-eq, reach-trans}
+use Rattle.words.proofs.Signed.{reach-trans}
+use Rattle.theory.proofs.Integers.{sub-sums}
 use Rattle.theory.proofs.Cycles.{sumOf-append}
 use Rattle.theory.proofs.Nodes.{Closed}
-
--- a difference of sums is the sum of differences
-sub-sums : (a b c d : ℕ) → pos (a + b) -ℤ pos (c + d) ≡ (pos a -ℤ pos c) +ℤ (pos b -ℤ pos d)
-sub-sums a b c d =
-    nat-eq (pos (a + b) -ℤ pos (c + d)) ((pos a -ℤ pos c) +ℤ (pos b -ℤ pos d))
-    (omega (arith, up-sub (pos (a + b)) (pos (c + d)), up-sub (pos a) (pos c), up-sub (pos b) (pos d), up-add (pos a -ℤ pos c) (pos b -ℤ pos d)))
 
 module _ (p q : ℕ) where
   -- the empty walk costs nothing

@@ -2,7 +2,6 @@
 -- Assumes nothing.
 use mathlib.Core.Path.{_≡_, refl, sym, ap, subst}
 use mathlib.Core.Bool.{Bool, true, false, cond, _&&_, _||_}
-use mathlib.Core.Logic.{_⊎_, inl, inr}
 use mathlib.Core.Option.{Option, none, some}
 use mathlib.Core.List.{List, [], _∷_, List·Memᴰ, List·Memᴰ·head, List·Memᴰ·tail}
 use Prim.Native.Nat.{ℕ, _*_, _-_, _<_, _≤_}
@@ -10,7 +9,7 @@ use native.Mathlib.Nat.{suc-mul, mul-le-mul, mul-le-mul-right, le-trans}
 use native.Mathlib.Decide.{decLt}
 use native.Mathlib.Omega.{arith}
 use lib.Dec.{eqb, leb}
-use lib.IntN.{pos, _-ℤ_, natAbs}
+use lib.IntN.{natAbs}
 use lib.ListN.{length, getD, List·getD-eq-default}
 use borrow.Author.Tests.{eqb-true, leb-true, le-leb}
 use Rattle.model.specs.Limits.{maxTasks, maxValue, maxNodes, maxP, maxQ, maxPotential}
@@ -23,7 +22,7 @@ use Rattle.model.specs.Check.{gcd, fractionOk, withinLimit}
 use Rattle.model.specs.Solve.{cost}
 use Rattle.model.proofs.Lists.{mem-getD}
 use Rattle.model.proofs.Plan.{both}
-use Rattle.words.proofs.Signed.{up, dn, up-sub, up-or-dn, natAbs-is}
+use Rattle.theory.proofs.Integers.{natAbs-sub-le}
 use Rattle.theory.proofs.Sound.{PlanSound}
 use Rattle.theory.proofs.Walks.{step-of}
 
@@ -92,14 +91,6 @@ module _ (P : Plan) (sd : PlanSound P) where
   walk-ideal-le w = sumOf-le (λ e. e .ideal) (maxTasks * maxValue) edge-ideal-le w
 
 -- ---- the limit of potentials
-
--- the size of a difference is at most the larger
-natAbs-sub-le : (a b limit : ℕ) → a ≤ limit → b ≤ limit → natAbs (pos a -ℤ pos b) ≤ limit
-natAbs-sub-le a b limit h k = by (up-or-dn (pos a -ℤ pos b))
-  where
-    by : (up (pos a -ℤ pos b) ≡ 0) ⊎ (dn (pos a -ℤ pos b) ≡ 0) → natAbs (pos a -ℤ pos b) ≤ limit
-    by (inl z) = omega (arith, natAbs-is (pos a -ℤ pos b), up-sub (pos a) (pos b))
-    by (inr z) = omega (arith, natAbs-is (pos a -ℤ pos b), up-sub (pos a) (pos b))
 
 -- a fraction that passes is within the limits
 pub fraction-fits : (p q : ℕ) → fractionOk p q ≡ true → (p ≤ maxP) × (q ≤ maxQ)

@@ -1,5 +1,6 @@
 pub mod Tests
 pub mod Sums
+pub mod Integers
 pub mod Bits
 pub mod Edges
 pub mod Sound

@@ -90,11 +90,11 @@ same-node u v = (
 -- the test of membership decides it
 pub among-mem : (u : Node) (ns : List Node) → (among u ns ≡ true) ↔ List·Memᴰ u ns
 among-mem u [] = (λ h. absurd (false≢true h), λ m. absurd (List·Memᴰ·not-nil m))
-among-mem u (v ∷ vs) = go (sameNode u v) refl (among-mem u vs)
+among-mem u (v ∷ vs) = by (sameNode u v) refl (among-mem u vs)
   where
-    go : (b : Bool) → sameNode u v ≡ b → (among u vs ≡ true) ↔ List·Memᴰ u vs → ((b || among u vs) ≡ true) ↔ List·Memᴰ u (v ∷ vs)
-    go true e later = (λ h. List·Memᴰ·head (same-node u v .0 e), λ m. refl)
-    go false e later = (
+    by : (b : Bool) → sameNode u v ≡ b → (among u vs ≡ true) ↔ List·Memᴰ u vs → ((b || among u vs) ≡ true) ↔ List·Memᴰ u (v ∷ vs)
+    by true e later = (λ h. List·Memᴰ·head (same-node u v .0 e), λ m. refl)
+    by false e later = (
       λ h. List·Memᴰ·tail (later .0 h),
       λ m. ⊎-elim (λ p. absurd (false≢true (sym e ∙ same-node u v .1 p))) (later .1) (List·Memᴰ·cases-cons m),
     )
@@ -104,14 +104,14 @@ among-mem u (v ∷ vs) = go (sameNode u v) refl (among-mem u vs)
 -- a node's number is its place
 pub number-at : (ns : List Node) (u d : Node) → List·Memᴰ u ns → (numberIn ns u < length ns) × (getD ns (numberIn ns u) d ≡ u)
 number-at [] u d m = absurd (List·Memᴰ·not-nil m)
-number-at (v ∷ vs) u d m = go (sameNode v u) refl (number-at vs u d)
+number-at (v ∷ vs) u d m = by (sameNode v u) refl (number-at vs u d)
   where
     At : List Node → ℕ → Type 0
     At ns i = (i < length ns) × (getD ns i d ≡ u)
 
-    go : (b : Bool) → sameNode v u ≡ b → (List·Memᴰ u vs → At vs (numberIn vs u)) → At (v ∷ vs) (cond b 0 (suc (numberIn vs u)))
-    go true e later = (omega arith, same-node v u .0 e)
-    go false e later =
+    by : (b : Bool) → sameNode v u ≡ b → (List·Memᴰ u vs → At vs (numberIn vs u)) → At (v ∷ vs) (cond b 0 (suc (numberIn vs u)))
+    by true e later = (omega arith, same-node v u .0 e)
+    by false e later =
         let r = later (⊎-elim (λ p. absurd (false≢true (sym e ∙ same-node v u .1 (sym p)))) (λ k. k) (List·Memᴰ·cases-cons m)) in
         (omega (arith, r .0), r .1)
 
@@ -143,17 +143,17 @@ grown-none ns = record {
 
 -- one edge
 grown-one : (ns : List Node) (e : Edge) → Grown ns (e ∷ []) (add ns e)
-grown-one ns e = go (among (e .to) ns) refl
+grown-one ns e = by (among (e .to) ns) refl
   where
-    go : (b : Bool) → among (e .to) ns ≡ b → Grown ns (e ∷ []) (cond b ns (ns ++ (e .to ∷ [])))
-    go true p = record {
+    by : (b : Bool) → among (e .to) ns ≡ b → Grown ns (e ∷ []) (cond b ns (ns ++ (e .to ∷ [])))
+    by true p = record {
       more = [];
       grown = sym (append-nil ns);
       distinct = λ d. d;
       from = λ v m. inl m;
       holds = λ f m. Memᴰ·cast (ap (λ g. g .to) (List·Memᴰ·eq-of-singleton m)) (among-mem (e .to) ns .0 p);
     }
-    go false p = record {
+    by false p = record {
       more = e .to ∷ [];
       grown = refl;
       distinct = λ d. distinct-snoc ns (e .to) d (λ m. false≢true (sym p ∙ among-mem (e .to) ns .1 m));
@@ -257,22 +257,22 @@ module _ (P : Plan) (k : ℕ) {ns : List Node} (known : Known P k ns) where
 pub known-explored : (P : Plan) (k : ℕ) → Known P k (explored P k)
 unfolding explored
 known-explored P zero = known-start P
-known-explored P (suc k) = go (ltb k (length (explored P k))) refl (known-explored P k)
+known-explored P (suc k) = by (ltb k (length (explored P k))) refl (known-explored P k)
   where
-    go : (b : Bool) → ltb k (length (explored P k)) ≡ b → Known P k (explored P k) →
+    by : (b : Bool) → ltb k (length (explored P k)) ≡ b → Known P k (explored P k) →
         Known P (suc k) (cond b (foldl add (explored P k) (edges P (getD (explored P k) k start))) (explored P k))
-    go true e known = known-next P k known (ltb-true _ _ e) (grown-all (edges P (getD (explored P k) k start)) (explored P k))
-    go false e known = known-past P k known (ltb-false _ _ e)
+    by true e known = known-next P k known (ltb-true _ _ e) (grown-all (edges P (getD (explored P k) k start)) (explored P k))
+    by false e known = known-past P k known (ltb-false _ _ e)
 
 -- nodes only join at the end
 pub explored-prefix : (P : Plan) (k : ℕ) → (more : List Node) × (explored P (suc k) ≡ explored P k ++ more)
 unfolding explored
-explored-prefix P k = go (ltb k (length (explored P k)))
+explored-prefix P k = by (ltb k (length (explored P k)))
   where
-    go : (b : Bool) → (more : List Node) ×
+    by : (b : Bool) → (more : List Node) ×
         (cond b (foldl add (explored P k) (edges P (getD (explored P k) k start))) (explored P k) ≡ explored P k ++ more)
-    go true = let g = grown-all (edges P (getD (explored P k) k start)) (explored P k) in (g .more, g .grown)
-    go false = ([], sym (append-nil (explored P k)))
+    by true = let g = grown-all (edges P (getD (explored P k) k start)) (explored P k) in (g .more, g .grown)
+    by false = ([], sym (append-nil (explored P k)))
 
 -- no two known nodes are the same
 pub explored-apart : (P : Plan) (k i j : ℕ) → i < length (explored P k) → j < length (explored P k) →

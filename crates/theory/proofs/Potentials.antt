@@ -6,9 +6,8 @@ use mathlib.Core.Logic.{_↔_, ⊎-elim}
 use mathlib.Core.List.{List, [], _∷_, List·Memᴰ, List·Memᴰ·cases-cons, List·Memᴰ·not-nil}
 use Prim.Native.Nat.{ℕ, zero, suc, _+_, _*_, _<_, _≤_}
 use native.Mathlib.Nat.{zero-add, add-zero, not-suc-le-zero, le-of-suc-le-suc}
-use native.Mathlib.Decide.{decLe}
 use native.Mathlib.Omega.{arith}
-use lib.IntN.{ℤ, pos, _+ℤ_, _-ℤ_, natAbs}
+use lib.IntN.{ℤ, pos, _+ℤ_}
 use lib.ListN.{length, getD}
 use lib.Signed.{leZ, _≤ℤ_, ≤ℤ-refl, leZ-yes}
 use Rattle.model.specs.Lists.{all}
@@ -18,8 +17,9 @@ use Rattle.model.specs.Walk.{Walk, kept, ideal}
 use Rattle.model.specs.Check.{potentialAt, withinLimit, weight, numberIn, edgeOk, edgesOkFrom, potentialsOk, least, allowance}
 use Rattle.model.proofs.Lists.{mem-getD}
 use Rattle.model.proofs.Plan.{both}
-use Rattle.words.proofs.Signed.{up, dn, up-add, up-sub, natAbs-is, leZ-iff, ≤ℤ-iff, ≤ℤ-trans}
-use Rattle.theory.proofs.Tests.{is-true, holds, fails, true-and, all-each}
+use Rattle.words.proofs.Signed.{≤ℤ-trans}
+use Rattle.theory.proofs.Integers.{leZ-not, gap, budget}
+use Rattle.theory.proofs.Tests.{is-true, holds, true-and, all-each}
 use Rattle.theory.proofs.Distinct.{Distinct}
 use Rattle.theory.proofs.Nodes.{number-at, number-getD, start-in-nodes, number-start, nodes-closed, walk-in-nodes}
 use Rattle.theory.proofs.Costs.{Feasible, feasible-walk}
@@ -91,14 +91,6 @@ module _ (P : Plan) (ns : List Node) (p q : ℕ) (zs : List ℤ) where
 
 -- ---- the allowance
 
--- a test that fails is the order the other way round
-leZ-not : (a b : ℤ) → leZ a b ≡ false → b ≤ℤ a
-leZ-not a b e = by (decLe (up a + dn b) (up b + dn a))
-  where
-    by : Dec (up a + dn b ≤ up b + dn a) → b ≤ℤ a
-    by (yes h) = absurd (fails e (leZ-iff a b .1 h))
-    by (no h) = ≤ℤ-iff b a .1 (omega arith)
-
 -- the least is at most the first
 least-first : (zs : List ℤ) (m : ℤ) → least zs m ≤ℤ m
 least-first [] m = ≤ℤ-refl m
@@ -119,26 +111,14 @@ least-each (y ∷ zs) m {z} k =
     smaller true e = ≤ℤ-refl y
     smaller false e = leZ-not y m e
 
--- a smaller number is below the larger by the size of their difference
-gap : (a b c : ℤ) → b ≤ℤ a → b ≤ℤ c → a ≤ℤ (c +ℤ pos (natAbs (a -ℤ b)))
-gap a b c h k =
-    ≤ℤ-iff a (c +ℤ pos (natAbs (a -ℤ b))) .1
-    (omega (arith, ≤ℤ-iff b a .0 h, ≤ℤ-iff b c .0 k, up-add c (pos (natAbs (a -ℤ b))), natAbs-is (a -ℤ b), up-sub a b))
-
 -- "K is the start node's potential less the smallest": so it is at most any other with K
 pub allowance-each : (zs : List ℤ) (i : ℕ) → i < length zs → potentialAt zs 0 ≤ℤ (potentialAt zs i +ℤ pos (allowance zs))
 unfolding allowance
 allowance-each zs i h =
-    gap (potentialAt zs 0) (least zs (potentialAt zs 0)) (potentialAt zs i) (least-first zs (potentialAt zs 0))
+    gap (potentialAt zs 0) (least zs (potentialAt zs 0)) (potentialAt zs i)
     (least-each zs (potentialAt zs 0) (mem-getD zs i (pos 0) h))
 
 -- ---- the bound
-
--- what a walk from a to b costs, where a is at most b with k
-budget : (a b : ℤ) (m n k : ℕ) → b ≤ℤ (a +ℤ (pos m -ℤ pos n)) → a ≤ℤ (b +ℤ pos k) → n ≤ m + k
-budget a b m n k h j =
-    omega
-    (arith, ≤ℤ-iff b (a +ℤ (pos m -ℤ pos n)) .0 h, ≤ℤ-iff a (b +ℤ pos k) .0 j, up-add a (pos m -ℤ pos n), up-sub (pos m) (pos n), up-add b (pos k))
 
 -- every walk from the start keeps the fraction p/q of its ideal gain, but for the allowance
 pub walk-keeps : (P : Plan) (p q : ℕ) (zs : List ℤ) → tooLarge P ≡ false → length zs ≡ length (nodes P) →

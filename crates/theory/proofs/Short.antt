@@ -6,7 +6,7 @@ use mathlib.Core.Logic.{⊎-elim}
 use mathlib.Core.List.{List, [], _∷_, _++_, map, List·Memᴰ, List·Memᴰ·not-nil, List·Memᴰ·cases-cons, Memᴰ·cast}
 use Prim.Native.Nat.{ℕ, _<_}
 use native.Mathlib.Omega.{arith}
-use lib.IntN.{ℤ, pos, _+ℤ_}
+use lib.IntN.{pos}
 use lib.ListN.{length, length-map}
 use lib.Signed.{_≤ℤ_, ≤ℤ-refl}
 use Rattle.model.specs.Plan.{Plan}
@@ -14,7 +14,8 @@ use Rattle.model.specs.Graph.{Node, Edge, start, edges, among}
 use Rattle.model.specs.Walk.{Walk, here, go}
 use Rattle.model.specs.Check.{weight}
 use Rattle.model.specs.Solve.{cost, Smallest}
-use Rattle.words.proofs.Signed.{up-add, ≤ℤ-iff, ≤ℤ-trans, +ℤ-mono}
+use Rattle.words.proofs.Signed.{≤ℤ-trans, +ℤ-mono}
+use Rattle.theory.proofs.Integers.{cheaper}
 use Rattle.theory.proofs.Distinct.{Distinct, distinct-le}
 use Rattle.theory.proofs.Nodes.{among-mem, Closed}
 use Rattle.theory.proofs.Costs.{cost-append, cost-cons}
@@ -65,13 +66,6 @@ passed-inside : {P : Plan} {ns : List Node} → Closed P ns → {u v : Node} {es
 passed-inside c m here x k = ⊎-elim (λ e. Memᴰ·cast e m) (λ j. absurd (List·Memᴰ·not-nil j)) (List·Memᴰ·cases-cons k)
 passed-inside c {u} m (go {e = e} j w) x k =
     ⊎-elim (λ p. Memᴰ·cast p m) (λ i. passed-inside c (c u m e j) w x i) (List·Memᴰ·cases-cons k)
-
--- the cost after a cut: the loop before it costs something, or nothing
-cheaper : (w a b y z : ℤ) → pos 0 ≤ℤ (w +ℤ a) → y ≡ a +ℤ b → y ≤ℤ z → b ≤ℤ (w +ℤ z)
-cheaper w a b y z h e k =
-    ≤ℤ-iff b (w +ℤ z) .1
-    (omega
-    (arith, ≤ℤ-iff (pos 0) (w +ℤ a) .0 h, ≤ℤ-iff (a +ℤ b) z .0 (subst (λ x. x ≤ℤ z) e k), up-add w a, up-add a b, up-add w z))
 
 -- a walk between the same nodes that passes none twice and costs no more
 pub record Simple (P : Plan) (p q : ℕ) (u v : Node) (es : List Edge) : Type 0 where

@@ -16,7 +16,8 @@ use Rattle.model.specs.Certificate.{Certificate}
 use Rattle.model.specs.Check.{withinLimit, fractionOk, edgesOkFrom, potentialsOk, cycleOk}
 use Rattle.model.specs.Solve.{cost, Smallest, Solved}
 use Rattle.model.proofs.Lists.{place}
-use Rattle.words.proofs.Signed.{up-add, ≤ℤ-iff, ≤ℤ-antisymm}
+use Rattle.words.proofs.Signed.{≤ℤ-antisymm}
+use Rattle.theory.proofs.Integers.{not-less}
 use Rattle.theory.proofs.Tests.{true-and, all-each}
 use Rattle.theory.proofs.Sound.{PlanSound}
 use Rattle.theory.proofs.Cycles.{walk-append}
@@ -27,10 +28,6 @@ use Rattle.theory.proofs.Accepted.{Sized, accepted-iff}
 use Rattle.theory.proofs.Distances.{AllSmallest, smallest-at, smallest-pass}
 use Rattle.theory.proofs.Short.{NoLoss, simple, simple-short}
 use Rattle.theory.proofs.Gains.{cost-within}
-
--- what is added to z and gives no less than z is not below 0
-not-less : (z w : ℤ) → z ≤ℤ (z +ℤ w) → pos 0 ≤ℤ w
-not-less z w h = ≤ℤ-iff (pos 0) w .1 (omega (arith, ≤ℤ-iff z (z +ℤ w) .0 h, up-add z w))
 
 module _ (P : Plan) (fits : tooLarge P ≡ false) (p q : ℕ) (zs : List ℤ) (smallest : AllSmallest P p q zs) where
   -- where every node has a smallest cost, no cycle costs less than nothing
