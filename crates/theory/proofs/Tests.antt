@@ -1,9 +1,12 @@
 -- Tests as facts and back.
 -- Assumes nothing.
-use mathlib.Core.Path.{_≡_, refl, sym, subst}
+use mathlib.Core.Path.{_≡_, refl, sym, _∙_, ap, ap₂, subst}
 use mathlib.Core.Bool.{Bool, true, false, _&&_, _||_}
-use mathlib.Core.Logic.{_⊎_, inl, inr}
+use mathlib.Core.Logic.{_↔_, _⊎_, inl, inr, ⊎-elim}
+use mathlib.Core.List.{List, [], _∷_, List·Memᴰ, List·Memᴰ·head, List·Memᴰ·tail, List·Memᴰ·not-nil, List·Memᴰ·cases-cons}
 use lib.Dec.{T}
+use Rattle.model.specs.Lists.{all}
+use Rattle.model.proofs.Plan.{both}
 
 -- a test that holds is true
 pub is-true : (b : Bool) → T b → b ≡ true
@@ -57,3 +60,18 @@ or-left false b h = absurd h
 pub or-right : (a b : Bool) → T b → T (a || b)
 or-right true b h = tt
 or-right false b h = h
+
+-- two tests that are true are true together
+pub true-and : (a b : Bool) → a ≡ true → b ≡ true → (a && b) ≡ true
+true-and a b p q = ap₂ (λ s t. s && t) p q
+
+-- a test of all elements is the test of each
+pub all-each {ℓ} : {A : Type ℓ} (f : A → Bool) (l : List A) → (all f l ≡ true) ↔ ((a : A) → List·Memᴰ a l → f a ≡ true)
+all-each f [] = (λ h a m. absurd (List·Memᴰ·not-nil m), λ h. refl)
+all-each f (x ∷ l) =
+    let later = all-each f l in (
+      λ h a m.
+          let two = both (f x) (all f l) h in
+          ⊎-elim (λ p. ap f p ∙ two .0) (later .0 (two .1) a) (List·Memᴰ·cases-cons m),
+      λ h. true-and (f x) (all f l) (h x (List·Memᴰ·head refl)) (later .1 (λ a m. h a (List·Memᴰ·tail m))),
+    )
