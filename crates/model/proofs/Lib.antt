@@ -1,3 +1,2 @@
 pub mod Lists
 pub mod Plan
-pub mod Trace

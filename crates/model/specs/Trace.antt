@@ -2,37 +2,29 @@
 use Prim.Native.Nat.{ℕ, zero, suc, _/_, _%_}
 use mathlib.Core.Bool.{Bool, cond}
 use mathlib.Core.List.{List, [], _∷_, _++_}
-use mathlib.Core.Option.{Option, none, some}
 use lib.Dec.{ltb}
 use lib.ListN.{length}
 use Rattle.model.specs.Limits.{maxLabels, traceRoom}
 use Rattle.model.specs.Refusals.{shortMemory, tooManyLabels, notAdmitted}
 use Rattle.model.specs.Lists.{flatMap}
 use Rattle.model.specs.Bytes.{bytes, overwrite}
-use Rattle.model.specs.Plan.{Plan, PlanAnswer, faulty, sound, readPlan, nextIn}
+use Rattle.model.specs.Plan.{Plan, PlanAnswer, faulty, sound, readPlan}
 use Rattle.model.specs.Slot.{Job, Done, slot}
+use Rattle.model.specs.Schedule.{admits}
 
 pub data TraceAnswer : Type 0 where
   refused : ℕ → TraceAnswer
   traced : List Done → TraceAnswer  -- what each label's slot does, in order
 
-abbrev pub consTraced : Done → TraceAnswer → TraceAnswer
-consTraced d (refused n) = refused n
-consTraced d (traced ds) = traced (d ∷ ds)
+-- what the slots of the labels do, from the policy's jobs: "each label finds .. the jobs that the label before it left"
+abbrev pub slots : Plan → List Job → List ℕ → List Done
+slots P js [] = []
+slots P js (l ∷ ls) = slot P js l ∷ slots P (slot P js l .jobs) ls
 
--- the labels from a state and the policy's jobs: "13, a label not admitted in the state reached"
-abbrev pub traceFrom : Plan → List ℕ → ℕ → List Job → TraceAnswer
-traceFrom P [] s js = traced []
-traceFrom P (l ∷ ls) s js =
-    elim (nextIn (P .arcs) s l) [
-      | none ↦ refused notAdmitted
-      | some t ↦ consTraced (slot P js l) (traceFrom P ls t (slot P js l .jobs))
-    ]
-
--- "12, more than 4,096 labels"; "12 comes before 13"
+-- "12, more than 4,096 labels. 13, a label not admitted in the state reached."; "12 comes before 13"
 unfoldable pub traceRun : Plan → List ℕ → TraceAnswer
 traceRun P ls =
-    let answer = traceFrom P ls 0 [] in
+    let answer = cond (admits P ls) (traced (slots P [] ls)) (refused notAdmitted) in
     cond (ltb maxLabels (length ls)) (refused tooManyLabels) answer
 
 -- "Tracing builds no graph and never gives 5"
@@ -50,7 +42,16 @@ trace plan labels lent =
 unfoldable pub traceBytes : List Done → List ℕ
 traceBytes ds = flatMap (λ d. d .ran ∷ bytes 2 (d .gain)) ds
 
+-- what the call tells: the number of the refusal, or how many bytes it wrote
+pub data TraceResult : Type 0 where
+  refused : ℕ → TraceResult
+  written : ℕ → TraceResult
+
+abbrev pub resultOf : TraceAnswer → TraceResult
+resultOf (TraceAnswer.refused n) = TraceResult.refused n
+resultOf (traced ds) = written (length (traceBytes ds))
+
 -- "A refusal gives its number, and the output bytes keep what they had; so do those past the last one written when a call succeeds."
 unfoldable pub outputAfter : TraceAnswer → List ℕ → List ℕ
-outputAfter (refused n) before = before
+outputAfter (TraceAnswer.refused n) before = before
 outputAfter (traced ds) before = overwrite before 0 (traceBytes ds)
