@@ -4,14 +4,13 @@ use mathlib.Core.Path.{_≡_, refl, sym, ap, ap₂, _∙_, subst}
 use mathlib.Core.Bool.{Bool, true, false, cond}
 use mathlib.Core.List.{List, [], _∷_, _++_}
 use Prim.Native.Nat.{ℕ, zero, suc, _+_, _-_, _*_, _/_, _%_, _^_, _≤_, _<_}
-use native.Mathlib.Nat.{pow-suc, pow-le-pow-right}
-use native.Mathlib.Decide.{decLt}
+use native.Mathlib.Nat.{pow-suc}
 use native.Mathlib.Omega.{arith}
 use borrow.Author.Tests.{lt-ltb, le-ltb, ltb-true, ltb-false}
 use lib.Dec.{ltb}
 use lib.ListN.{length, length-append}
 use Rattle.io.specs.Digits.{glyph, digits, Fewest}
-use Rattle.model.specs.Text.{digitsIn, decimal}
+use Rattle.model.specs.Text.{digitsIn, decimal, refusedLine, lineFeed}
 
 -- a digit's code
 digit : (d : ℕ) → d < 10 → glyph d ≡ 48 + d
@@ -53,14 +52,29 @@ unfolding decimal
 digits-decimal n zero f = absurd (omega (arith, f .0))
 digits-decimal n (suc r) f = digits-in n n r (omega arith) f
 
--- a word's number has at most 20 digits
-pub digits-fit : (n r : ℕ) → n < 2 ^ 64 → Fewest 10 1 n r → r ≤ 20
-digits-fit n zero h f = omega arith
-digits-fit n (suc r) h f = go (decLt r 20)
+-- a number below a power of ten has no more digits than it
+digits-length : (f k n : ℕ) → n < 10 ^ suc k → length (digitsIn f n) ≤ suc k
+digits-length zero k n h = omega arith
+digits-length (suc f) k n h = go (ltb n 10) refl k h (λ j l. digits-length f j (n / 10) l)
   where
-    go : Dec (r < 20) → suc r ≤ 20
-    go (yes k) = k
-    go (no k) =
-        let many : 20 ≤ r = omega arith in
-        let big : 10 ^ 20 ≤ 10 ^ r = pow-le-pow-right (omega arith) many in
-        absurd (omega (arith, least-of n r (omega arith) f))
+    go : (b : Bool) → ltb n 10 ≡ b → (k : ℕ) → n < 10 ^ suc k → ((j : ℕ) → n / 10 < 10 ^ suc j → length (digitsIn f (n / 10)) ≤ suc j) →
+        length (cond b ((48 + n) ∷ []) (digitsIn f (n / 10) ++ ((48 + n % 10) ∷ []))) ≤ suc k
+    go true e k h later = omega arith
+    go false e zero h later = absurd (omega (arith, ltb-false))
+    go false e (suc k) h later =
+        let up : n < 10 ^ suc k * 10 = rw (← pow-suc 10 (suc k)) h in
+        omega (arith, length-append (digitsIn f (n / 10)) ((48 + n % 10) ∷ []), later k (omega arith))
+
+pub decimal-length : (k n : ℕ) → n < 10 ^ suc k → length (decimal n) ≤ suc k
+unfolding decimal
+decimal-length k n h = digits-length n k n h
+
+-- the line of a refusal is a word, a space, the number and a line feed
+pub refused-length : (n : ℕ) → length (refusedLine n) ≡ length (decimal n) + 9
+unfolding refusedLine
+refused-length n =
+    omega (
+      arith,
+      length-append ((114 ∷ 101 ∷ 102 ∷ 117 ∷ 115 ∷ 101 ∷ 100 ∷ 32 ∷ []) ++ decimal n) lineFeed,
+      length-append (114 ∷ 101 ∷ 102 ∷ 117 ∷ 115 ∷ 101 ∷ 100 ∷ 32 ∷ []) (decimal n),
+    )

@@ -18,9 +18,8 @@ pub fn put_bytes(out: &mut [u8], at: usize, bytes: &[u8]) -> usize
 
 // Writes n in decimal at a place, and answers the place after it.
 pub fn put_number(out: &mut [u8], at: usize, n: u64) -> usize
-    requires { ⌜ at + 20 ≤ length (now out) ⌝ }
+    requires { ⌜ at + length (decimal n) ≤ length (now out) ⌝ }
     ensures { λ r. ⌜ Put (now (out .entry)) (now (out .exit)) at (decimal n) r ⌝ }
-    ensures { λ r. ⌜ r ≤ at + 20 ⌝ }
 {
     let mut digits = [0u8; 20];
     let k = io::decimal(n, &mut digits);
@@ -30,9 +29,8 @@ pub fn put_number(out: &mut [u8], at: usize, n: u64) -> usize
 
 // Writes the line of a refusal, and answers its length.
 pub fn put_refusal(out: &mut [u8], n: u64) -> usize
-    requires { ⌜ 29 ≤ length (now out) ⌝ }
+    requires { ⌜ length (refusedLine n) ≤ length (now out) ⌝ }
     ensures { λ r. ⌜ Put (now (out .entry)) (now (out .exit)) 0 (refusedLine n) r ⌝ }
-    ensures { λ r. ⌜ r ≤ 29 ⌝ }
 {
     let word = put_bytes(out, 0, b"refused ");
     let number = put_number(out, word, n);

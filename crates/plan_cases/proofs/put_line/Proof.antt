@@ -12,6 +12,7 @@ use Rattle.model.specs.Text.{refusedLine}
 use Rattle.plan.specs.declared.Outcome.{Outcome}
 use Rattle.plan.specs.View.{answerWith, planOf}
 use Rattle.text.specs.Put.{Put}
+use Rattle.text.proofs.Decimal.{refused-length, decimal-length}
 use Rattle.plan_cases.specs.Lines.{planLine}
 use borrow.Author.Needs.{needs}
 use Rattle.plan_cases.proofs.put_line.Statement.{statement}
@@ -45,7 +46,9 @@ number-requires : tie.Need-number-requires
 number-requires c κs = search needs
 
 put-refusal-requires : tie.Need-put-refusal-requires
-put-refusal-requires c κs = search needs
+put-refusal-requires c κs =
+    let n = c .number .result in
+    omega (arith, refused-length n, decimal-length 19 n (omega arith))
 
 same-length : tie.Need-same-length
 same-length c = search needs
@@ -65,7 +68,7 @@ returns-2 c =
     let b = c .before .before in
     let t = b .before .before .before .before in
     let p = b .put-refusal .ensures in
-    (as-line (planOf (t .before .before .read .result .plan)) (t .before .before .read .result .outcome) (t .before .before .read .ensures) (t .outcome .given .1) (ap refusedLine (sym (b .before .number .ensures))) (p .0), counted _ _ (omega (arith, p .1)))
+    (as-line (planOf (t .before .before .read .result .plan)) (t .before .before .read .result .outcome) (t .before .before .read .ensures) (t .outcome .given .1) (ap refusedLine (sym (b .before .number .ensures))) p, counted _ _ (omega (arith, p .next, refused-length (b .before .number .result), decimal-length 19 (b .before .number .result) (omega arith))))
 
 pub put-line-spec : {M : Type 1} → statement M
 put-line-spec =

@@ -11,7 +11,7 @@ use lib.Seq.{take-take}
 use Rattle.model.specs.Bytes.{overwrite, part}
 use Rattle.model.specs.Text.{decimal}
 use Rattle.text.specs.Put.{Put}
-use Rattle.text.proofs.Decimal.{digits-decimal, digits-fit}
+use Rattle.text.proofs.Decimal.{digits-decimal}
 use Rattle.text.proofs.put_number.Statement.{statement}
 use Rattle.text.proofs.put_number.Tie as tie
 
@@ -26,9 +26,11 @@ copied before after digits at k n l e c = record {
 decimal-requires : tie.Need-decimal-requires
 decimal-requires c κs = search needs
 
--- so many digits at most
-few : (c : tie.After-decimal) → c .decimal .result ≤ 20
-few c = digits-fit _ _ (omega arith) (c .decimal .ensures .1 .0)
+-- the digits made are the decimal text's
+made : (c : tie.After-decimal) → c .decimal .result ≡ length (decimal (c .before .before .before .args .n))
+made c =
+    let e = c .decimal .ensures in
+    e .0 .1 ∙ ap length (e .1 .1 ∙ digits-decimal _ _ (e .1 .0))
 
 array-share-prefix-digits : tie.Need-array-share-prefix-digits
 array-share-prefix-digits c = search needs
@@ -39,10 +41,10 @@ slice-aggregate-copy c = search needs
 copy-requires : tie.Need-copy-requires
 copy-requires c κs =
     let d = c .before .before in
-    (omega (arith, d .decimal .ensures .0 .1), omega (arith, few d))
+    (omega (arith, d .decimal .ensures .0 .1), omega (arith, made d))
 
 add-result : tie.Need-add-result
-add-result c = omega (arith, few (c .before .before .before .before .before))
+add-result c = omega (arith, made (c .before .before .before .before .before))
 
 same-length : tie.Need-same-length
 same-length c = search needs
@@ -51,7 +53,7 @@ returns : tie.Need-returns
 returns c =
     let d = c .before .before .before .before .before in
     let e = d .decimal .ensures in
-    (copied _ _ _ _ _ _ (e .0 .1) (e .1 .1 ∙ digits-decimal _ _ (e .1 .0)) (c .before .before .copy .ensures), omega (arith, few d))
+    copied _ _ _ _ _ _ (e .0 .1) (e .1 .1 ∙ digits-decimal _ _ (e .1 .0)) (c .before .before .copy .ensures)
 
 pub put-number-spec : {M : Type 1} → statement M
 put-number-spec =
