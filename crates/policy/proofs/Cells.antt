@@ -1,0 +1,235 @@
+-- The slot rule's steps, cell by cell.
+-- Assumes nothing.
+use mathlib.Core.Path.{_≡_, refl, sym, _∙_, ap, ap₂, subst}
+use mathlib.Core.Bool.{Bool, true, false, cond, _&&_, and-false}
+use mathlib.Core.List.{List, [], _∷_, _++_, map, List·Memᴰ}
+use mathlib.Core.Logic.{⊎-elim, _⊎_, inl, inr}
+use Prim.Native.Nat.{ℕ, zero, suc, _+_, _-_, _*_, _/_, _%_, _≤_, _<_}
+use native.Mathlib.Omega.{arith}
+use borrow.Author.Tests.{lt-ltb, le-ltb, ltb-true, ltb-false, leb-true, leb-false, eq-eqb, ne-eqb, eqb-true, eqb-false}
+use lib.Dec.{leb, ltb, eqb}
+use lib.ListN.{length, getD, set, length-set, replicate, length-replicate, getD-replicate, List·getD-eq-default}
+use lib.Seq.{getD-set-same, getD-set-other}
+use Rattle.model.specs.Limits.{maxTasks, maxWindow}
+use Rattle.model.specs.Lists.{consIf, keep, flatMap, upFrom}
+use Rattle.model.specs.Plan.{Task}
+use Rattle.model.specs.Slot.{Job, noTask, canFinish, isJob, worked, tick, stays}
+use Rattle.model.proofs.Lists.{flatMap-append, getD-table, mem-of-upFrom, upFrom-append}
+use Rattle.policy.specs.View.{Tasks, cellCount, slotCells, taskIn, taskAt, ageIn, leftIn, jobIn, jobsIn, jobsOf, hasWork, InRange, TasksInRange, Cells}
+use Rattle.policy.proofs.Lists.{flatMap-same, flatMap-none, keep-flatMap, map-flatMap, flatMap-shift, length-table}
+
+-- ---- ranges
+
+-- a task is there and in range, or has no work and no window
+pub task-cases : (ts : Tasks) → TasksInRange ts → (i : ℕ) → ((i < length ts) × InRange (getD ts i noTask)) ⊎ (getD ts i noTask ≡ noTask)
+task-cases ts r i = go (ltb i (length ts)) refl
+  where
+    go : (b : Bool) → ltb i (length ts) ≡ b → ((i < length ts) × InRange (getD ts i noTask)) ⊎ (getD ts i noTask ≡ noTask)
+    go true e = inl (ltb-true _ _ e, r .each i (ltb-true _ _ e))
+    go false e = inr (List·getD-eq-default ts noTask (ltb-false _ _ e))
+
+pub window-low : (ts : Tasks) → TasksInRange ts → (i : ℕ) → getD ts i noTask .window ≤ maxWindow
+window-low ts r i = ⊎-elim (λ h. h .1 .window) (λ e. omega (arith, ap (λ (t : Task). t .window) e)) (task-cases ts r i)
+
+pub work-within : (ts : Tasks) → TasksInRange ts → (i : ℕ) → getD ts i noTask .work ≤ getD ts i noTask .window
+work-within ts r i =
+    ⊎-elim (λ h. h .1 .within) (λ e. omega (arith, ap (λ (t : Task). t .work) e)) (task-cases ts r i)
+
+-- ---- the view
+
+pub jobs-sized : (ts : Tasks) (n : ℕ) (cells : List ℕ) → length cells ≡ n → jobsOf ts cells ≡ flatMap (λ k. jobsIn ts k (getD cells k 0)) (upFrom 0 n)
+unfolding jobsOf
+jobs-sized ts n cells e = ap (λ m. flatMap (λ k. jobsIn ts k (getD cells k 0)) (upFrom 0 m)) e
+
+pub jobs-table : (ts : Tasks) (f : ℕ → ℕ) (n : ℕ) → jobsOf ts (map f (upFrom 0 n)) ≡ flatMap (λ k. jobsIn ts k (f k)) (upFrom 0 n)
+jobs-table ts f n =
+    jobs-sized ts n (map f (upFrom 0 n)) (length-table f n)
+    ∙ flatMap-same (λ k. jobsIn ts k (getD (map f (upFrom 0 n)) k 0)) (λ k. jobsIn ts k (f k)) (upFrom 0 n)
+    (λ k m. ap (jobsIn ts k) (getD-table f n k 0 (omega (arith, mem-of-upFrom 0 n m))))
+
+-- a table's cells, from what holds of each
+pub cells-table : (ts : Tasks) (f : ℕ → ℕ) (n : ℕ) → ((k : ℕ) → k < n → (f k ≤ taskAt ts k .work) × (0 < f k → 0 < leftIn ts k)) → Cells ts n (map f (upFrom 0 n))
+cells-table ts f n h = record { size = length-table f n; work = λ k. both k .0; left = λ k. both k .1 }
+  where
+    Fine : ℕ → ℕ → Type 0
+    Fine k w = (w ≤ taskAt ts k .work) × (0 < w → 0 < leftIn ts k)
+
+    go : (k : ℕ) (b : Bool) → ltb k n ≡ b → Fine k (getD (map f (upFrom 0 n)) k 0)
+    go k true e = subst (Fine k) (sym (getD-table f n k 0 (ltb-true _ _ e))) (h k (ltb-true _ _ e))
+    go k false e =
+        subst (Fine k) (sym (List·getD-eq-default (map f (upFrom 0 n)) 0 (omega (arith, ltb-false k n e, length-table f n))))
+        (omega arith, λ lt. absurd (omega arith))
+
+    both : (k : ℕ) → Fine k (getD (map f (upFrom 0 n)) k 0)
+    both k = go k (ltb k n) refl
+
+-- cells of no jobs
+pub empty-jobs : (ts : Tasks) (n : ℕ) → jobsOf ts (replicate n 0) ≡ []
+empty-jobs ts n =
+    jobs-sized ts n (replicate n 0) (length-replicate n 0)
+    ∙ flatMap-none (λ k. jobsIn ts k (getD (replicate n 0) k 0)) (upFrom 0 n)
+    (λ k m. ap (jobsIn ts k) (getD-replicate n k 0 0 (omega (arith, mem-of-upFrom 0 n m))))
+
+pub empty-cells : (ts : Tasks) (n : ℕ) → Cells ts n (replicate n 0)
+empty-cells ts n = record { size = length-replicate n 0; work = λ k. omega (arith, zeros n k); left = λ k p. absurd (omega (arith, zeros n k)) }
+  where
+    zeros : (m k : ℕ) → _≡_ {A = ℕ} (getD (replicate m 0) k 0) 0
+    zeros zero k = refl
+    zeros (suc m) zero = refl
+    zeros (suc m) (suc k) = zeros m k
+
+-- ---- 2. jobs that can finish
+
+abbrev pub hopeful : Tasks → List ℕ → ℕ → ℕ
+hopeful ts cells k = cond (leb (getD cells k 0) (leftIn ts k)) (getD cells k 0) 0
+
+hopeful-cell : (ts : Tasks) (k w : ℕ) → keep canFinish (jobsIn ts k w) ≡ jobsIn ts k (cond (leb w (leftIn ts k)) w 0)
+hopeful-cell ts k w = go (ltb 0 w) (leb w (leftIn ts k)) refl refl
+  where
+    go : (a b : Bool) → ltb 0 w ≡ a → leb w (leftIn ts k) ≡ b → keep canFinish (consIf a (jobIn ts k w) []) ≡ jobsIn ts k (cond b w 0)
+    go true true p q = rw (p, q)
+    go true false p q = rw q
+    go false true p q = rw p
+    go false false p q = refl
+
+pub hopeful-jobs : (ts : Tasks) (n : ℕ) (cells : List ℕ) → length cells ≡ n → jobsOf ts (map (hopeful ts cells) (upFrom 0 n)) ≡ keep canFinish (jobsOf ts cells)
+hopeful-jobs ts n cells e =
+    jobs-table ts (hopeful ts cells) n
+    ∙ flatMap-same (λ k. jobsIn ts k (hopeful ts cells k)) (λ k. keep canFinish (jobsIn ts k (getD cells k 0))) (upFrom 0 n) (λ k m. sym (hopeful-cell ts k (getD cells k 0)))
+    ∙ sym (keep-flatMap canFinish (λ k. jobsIn ts k (getD cells k 0)) (upFrom 0 n))
+    ∙ ap (keep canFinish) (sym (jobs-sized ts n cells e))
+
+pub hopeful-cells : (ts : Tasks) (n : ℕ) (cells : List ℕ) → Cells ts n cells → Cells ts n (map (hopeful ts cells) (upFrom 0 n))
+hopeful-cells ts n cells h = cells-table ts (hopeful ts cells) n (λ k lt. go k (leb (getD cells k 0) (leftIn ts k)))
+  where
+    go : (k : ℕ) (b : Bool) → (cond b (getD cells k 0) 0 ≤ taskAt ts k .work) × (0 < cond b (getD cells k 0) 0 → 0 < leftIn ts k)
+    go k true = (h .work k, h .left k)
+    go k false = (omega arith, λ lt. absurd (omega arith))
+
+-- ---- 4. slots left falls by 1
+
+abbrev pub aged : Tasks → List ℕ → ℕ → ℕ
+aged ts cells k = cond (ltb 1 (leftIn ts (k + maxTasks))) (getD cells (k + maxTasks) 0) 0
+
+-- a row further on is a slot younger
+same-task : (ts : Tasks) (k : ℕ) → taskAt ts (k + maxTasks) ≡ taskAt ts k
+same-task ts k = ap (λ i. getD ts i noTask) (omega arith)
+
+left-falls : (ts : Tasks) (k : ℕ) → k < cellCount → leftIn ts (k + maxTasks) - 1 ≡ leftIn ts k
+left-falls ts k h = omega (arith, ap (λ (t : Task). t .window) (same-task ts k))
+
+aged-cell : (ts : Tasks) (k w : ℕ) → k < cellCount → keep stays (map tick (jobsIn ts (k + maxTasks) w)) ≡ jobsIn ts k (cond (ltb 1 (leftIn ts (k + maxTasks))) w 0)
+aged-cell ts k w h = go (ltb 0 w) (ltb 1 (leftIn ts (k + maxTasks))) refl refl
+  where
+    go : (a b : Bool) → ltb 0 w ≡ a → ltb 1 (leftIn ts (k + maxTasks)) ≡ b
+        → keep stays (map tick (consIf a (jobIn ts (k + maxTasks) w) [])) ≡ jobsIn ts k (cond b w 0)
+    go true true p q =
+        rw (p, lt-ltb 0 (leftIn ts (k + maxTasks) - 1) (omega (arith, ltb-true 1 (leftIn ts (k + maxTasks)) q)))
+        (λ i. record { task = task i; work = w; left = left-falls ts k h i } ∷ [])
+      where
+        task : taskIn (k + maxTasks) ≡ taskIn k
+        task = omega arith
+    go true false p q =
+        rw (p, le-ltb 0 (leftIn ts (k + maxTasks) - 1) (omega (arith, ltb-false 1 (leftIn ts (k + maxTasks)) q)))
+    go false true p q = rw p
+    go false false p q = refl
+
+-- the oldest jobs go
+aged-first : (ts : Tasks) (k w : ℕ) → TasksInRange ts → k < maxTasks → keep stays (map tick (jobsIn ts k w)) ≡ []
+aged-first ts k w r h = go (ltb 0 w)
+  where
+    go : (a : Bool) → keep stays (map tick (consIf a (jobIn ts k w) [])) ≡ []
+    go true = rw (le-ltb 0 (leftIn ts k - 1) (omega (arith, window-low ts r (k % maxTasks))), and-false)
+    go false = refl
+
+pub aged-jobs : (ts : Tasks) (cells : List ℕ) → TasksInRange ts → length cells ≡ slotCells
+    → jobsOf ts (map (aged ts cells) (upFrom 0 cellCount)) ≡ keep stays (map tick (jobsOf ts cells))
+aged-jobs ts cells r e =
+    jobs-table ts (aged ts cells) cellCount
+    ∙ flatMap-same (λ k. jobsIn ts k (aged ts cells k)) (λ k. after (k + maxTasks)) (upFrom 0 cellCount)
+    (λ k m. sym (aged-cell ts k (getD cells (k + maxTasks) 0) (omega (arith, mem-of-upFrom 0 cellCount m))))
+    ∙ sym (flatMap-shift after 0 maxTasks cellCount)
+    ∙ ap (λ l. l ++ flatMap after (upFrom maxTasks cellCount))
+    (sym (flatMap-none after (upFrom 0 maxTasks) (λ k m. aged-first ts k (getD cells k 0) r (omega (arith, mem-of-upFrom 0 maxTasks m)))))
+    ∙ sym (flatMap-append after (upFrom 0 maxTasks) (upFrom maxTasks cellCount))
+    ∙ ap (flatMap after) (sym (upFrom-append 0 maxTasks cellCount))
+    ∙ sym (keep-flatMap stays (λ k. map tick (jobsIn ts k (getD cells k 0))) (upFrom 0 slotCells))
+    ∙ ap (keep stays) (sym (map-flatMap tick (λ k. jobsIn ts k (getD cells k 0)) (upFrom 0 slotCells)))
+    ∙ ap (λ js. keep stays (map tick js)) (sym (jobs-sized ts slotCells cells e))
+  where
+    after : ℕ → List Job
+    after k = keep stays (map tick (jobsIn ts k (getD cells k 0)))
+
+pub aged-cells : (ts : Tasks) (cells : List ℕ) → Cells ts slotCells cells → Cells ts cellCount (map (aged ts cells) (upFrom 0 cellCount))
+aged-cells ts cells h = cells-table ts (aged ts cells) cellCount (λ k lt. go k lt (ltb 1 (leftIn ts (k + maxTasks))) refl)
+  where
+    go : (k : ℕ) → k < cellCount → (b : Bool) → ltb 1 (leftIn ts (k + maxTasks)) ≡ b
+        → (cond b (getD cells (k + maxTasks) 0) 0 ≤ taskAt ts k .work) × (0 < cond b (getD cells (k + maxTasks) 0) 0 → 0 < leftIn ts k)
+    go k lt true e = (
+      omega (arith, h .work (k + maxTasks), ap (λ (t : Task). t .work) (same-task ts k)),
+      λ _. omega (arith, left-falls ts k lt, ltb-true 1 (leftIn ts (k + maxTasks)) e),
+    )
+    go k lt false e = (omega arith, λ p. absurd (omega arith))
+
+-- ---- 3. the job of a cell runs
+
+-- two jobs with slots left that share task and slots left are in one cell
+pub one-cell : (ts : Tasks) (i k : ℕ) → i < slotCells → k < slotCells → 0 < leftIn ts i → taskIn i ≡ taskIn k → leftIn ts i ≡ leftIn ts k → i ≡ k
+one-cell ts i k hi hk p t l =
+    let same : i % maxTasks ≡ k % maxTasks = omega arith in
+    omega (arith, ap (λ j. getD ts j noTask .window) same)
+
+module _ (ts : Tasks) (cells : List ℕ) (at : ℕ) (h : Cells ts slotCells cells) (lt : at < slotCells) (p : 0 < getD cells at 0) where
+  chosen : Job
+  chosen = jobIn ts at (getD cells at 0)
+
+  run-cell : (k : ℕ) → k < slotCells → jobsIn ts k (getD (set cells at (getD cells at 0 - 1)) k 0) ≡ keep hasWork (map (worked chosen) (jobsIn ts k (getD cells k 0)))
+  unfolding chosen
+  run-cell k hk = here (eqb k at) refl
+    where
+      other : (a : Bool) → ltb 0 (getD cells k 0) ≡ a → (k ≡ at → ⊥)
+          → consIf a (jobIn ts k (getD cells k 0)) [] ≡ keep hasWork (map (worked (jobIn ts at (getD cells at 0))) (consIf a (jobIn ts k (getD cells k 0)) []))
+      other true e ne =
+          rw (differ (eqb (taskIn at) (taskIn k)) (eqb (leftIn ts at) (leftIn ts k)) refl refl, e)
+        where
+          differ : (a b : Bool) → eqb (taskIn at) (taskIn k) ≡ a → eqb (leftIn ts at) (leftIn ts k) ≡ b → (a && b) ≡ false
+          differ true true x y =
+              absurd (ne (sym (one-cell ts at k lt hk (h .left at p) (eqb-true _ _ x) (eqb-true _ _ y))))
+          differ true false x y = refl
+          differ false b x y = refl
+      other false e ne = refl
+
+      here : (b : Bool) → eqb k at ≡ b → jobsIn ts k (getD (set cells at (getD cells at 0 - 1)) k 0) ≡ keep hasWork (map (worked (jobIn ts at (getD cells at 0))) (jobsIn ts k (getD cells k 0)))
+      here true e =
+          subst (λ j. jobsIn ts j (getD (set cells at (getD cells at 0 - 1)) j 0) ≡ keep hasWork (map (worked (jobIn ts at (getD cells at 0))) (jobsIn ts j (getD cells j 0))))
+          (sym (eqb-true k at e))
+          (rw (getD-set-same cells at (getD cells at 0 - 1) 0 (omega (arith, h .size)), lt-ltb 0 (getD cells at 0) p, eq-eqb (taskIn at) (taskIn at) refl, eq-eqb (leftIn ts at) (leftIn ts at) refl))
+      here false e =
+          rw (getD-set-other cells at k (getD cells at 0 - 1) 0 (eqb-false k at e))
+          (other (ltb 0 (getD cells k 0)) refl (eqb-false k at e))
+
+  pub run-jobs : jobsOf ts (set cells at (getD cells at 0 - 1)) ≡ keep hasWork (map (worked (jobIn ts at (getD cells at 0))) (jobsOf ts cells))
+  unfolding chosen
+  run-jobs =
+      jobs-sized ts slotCells (set cells at (getD cells at 0 - 1)) (length-set cells at (getD cells at 0 - 1) ∙ h .size)
+      ∙ flatMap-same (λ k. jobsIn ts k (getD (set cells at (getD cells at 0 - 1)) k 0)) (λ k. keep hasWork (map (worked chosen) (jobsIn ts k (getD cells k 0)))) (upFrom 0 slotCells)
+      (λ k m. run-cell k (omega (arith, mem-of-upFrom 0 slotCells m)))
+      ∙ sym (keep-flatMap hasWork (λ k. map (worked chosen) (jobsIn ts k (getD cells k 0))) (upFrom 0 slotCells))
+      ∙ ap (keep hasWork) (sym (map-flatMap (worked chosen) (λ k. jobsIn ts k (getD cells k 0)) (upFrom 0 slotCells)))
+      ∙ ap (λ js. keep hasWork (map (worked chosen) js)) (sym (jobs-sized ts slotCells cells (h .size)))
+
+  pub run-cells : Cells ts slotCells (set cells at (getD cells at 0 - 1))
+  run-cells = record {
+    size = length-set cells at (getD cells at 0 - 1) ∙ h .size;
+    work = λ k. omega (arith, falls k, h .work k);
+    left = λ k q. h .left k (omega (arith, falls k));
+  }
+    where
+      falls : (k : ℕ) → getD (set cells at (getD cells at 0 - 1)) k 0 ≤ getD cells k 0
+      falls k = go (eqb k at) refl
+        where
+          go : (b : Bool) → eqb k at ≡ b → getD (set cells at (getD cells at 0 - 1)) k 0 ≤ getD cells k 0
+          go true e =
+              subst (λ j. getD (set cells at (getD cells at 0 - 1)) j 0 ≤ getD cells j 0) (sym (eqb-true k at e))
+              (omega (arith, getD-set-same cells at (getD cells at 0 - 1) 0 (omega (arith, h .size))))
+          go false e = omega (arith, getD-set-other cells at k (getD cells at 0 - 1) 0 (eqb-false k at e))

@@ -1,0 +1,58 @@
+-- The slot rule from its steps on cells.
+-- Assumes nothing.
+use mathlib.Core.Path.{_≡_, refl, sym, _∙_, ap}
+use mathlib.Core.Bool.{Bool, true, false, cond}
+use mathlib.Core.List.{List, [], _∷_, _++_, map}
+use mathlib.Core.Option.{Option, none, some}
+use Prim.Native.Nat.{ℕ, _+_, _%_, _≤_, _<_}
+use native.Mathlib.Numerals.{add-one}
+use native.Mathlib.Omega.{arith}
+use borrow.Author.Tests.{lt-ltb}
+use lib.Dec.{eqb, ltb}
+use lib.ListN.{getD, List·getD-eq-default}
+use Rattle.model.specs.Limits.{maxTasks}
+use Rattle.model.specs.Lists.{consIf, keep}
+use Rattle.model.specs.Plan.{Task, Plan}
+use Rattle.model.specs.Slot.{Job, Done, newJobs, canFinish, key, first, worked, tick, stays, runFirst, ready, slot, taskOf}
+use Rattle.policy.specs.View.{Tasks, slotCells, taskIn, taskAt, jobIn, jobsOf, hasWork, choiceIn}
+use Rattle.policy.proofs.Keys.{task-number}
+
+-- a job without work goes at the slot's end, so it may go before it
+stays-works : (js : List Job) → keep stays (map tick (keep hasWork js)) ≡ keep stays (map tick js)
+stays-works [] = refl
+stays-works (j ∷ js) = go (hasWork j) refl (stays-works js)
+  where
+    go : (b : Bool) → hasWork j ≡ b → keep stays (map tick (keep hasWork js)) ≡ keep stays (map tick js)
+        → keep stays (map tick (consIf b j (keep hasWork js))) ≡ keep stays (map tick (j ∷ js))
+    go true e h = ap (consIf (stays (tick j)) (tick j)) h
+    go false e h = rw e h
+
+module _ (P : Plan) (ts : Tasks) (policy : ℕ) (same : P .tasks ≡ ts) (by : P .policy ≡ policy) (js : List Job) (l : ℕ) (cells : List ℕ)
+    (dropped : jobsOf ts cells ≡ keep canFinish (js ++ newJobs ts l 1)) where
+  -- the rule from the cells that the first two steps leave
+  slot-ready : slot P js l ≡ runFirst ts (jobsOf ts cells) (first (key ts policy) (jobsOf ts cells))
+  unfolding slot ready
+  slot-ready =
+      (λ i. runFirst (same i) (keep canFinish (js ++ newJobs (same i) l 1)) (first (key (same i) (by i)) (keep canFinish (js ++ newJobs (same i) l 1))))
+      ∙ ap (λ r. runFirst ts r (first (key ts policy) r)) (sym dropped)
+
+  pub slot-idle : (older : List ℕ) → choiceIn ts cells slotCells ≡ first (key ts policy) (jobsOf ts cells)
+      → jobsOf ts older ≡ keep stays (map tick (jobsOf ts cells)) → _≡_ {A = Done} (record { jobs = jobsOf ts older; ran = 0; gain = 0 }) (slot P js l)
+  slot-idle older choice end =
+      (λ i. record { jobs = end i; ran = 0; gain = 0 }) ∙ ap (runFirst ts (jobsOf ts cells)) choice ∙ sym slot-ready
+
+  module _ (at : ℕ) (lt : at < slotCells) (choice : choiceIn ts cells at ≡ first (key ts policy) (jobsOf ts cells)) (after older : List ℕ)
+      (runs : jobsOf ts after ≡ keep hasWork (map (worked (jobIn ts at (getD cells at 0))) (jobsOf ts cells)))
+      (end : jobsOf ts older ≡ keep stays (map tick (jobsOf ts after))) (gain : ℕ)
+      (gained : gain ≡ cond (eqb (getD cells at 0) 1) (taskAt ts at .value) 0) where
+    pub slot-ran : _≡_ {A = Done} (record { jobs = jobsOf ts older; ran = at % maxTasks + 1; gain = gain }) (slot P js l)
+    slot-ran =
+        (λ i. record { jobs = left i; ran = add-one (at % maxTasks) i; gain = value i })
+        ∙ ap (runFirst ts (jobsOf ts cells)) (rw (lt-ltb at slotCells lt) at choice)
+        ∙ sym slot-ready
+      where
+        left : jobsOf ts older ≡ keep stays (map tick (map (worked (jobIn ts at (getD cells at 0))) (jobsOf ts cells)))
+        left = end ∙ ap (λ r. keep stays (map tick r)) runs ∙ stays-works (map (worked (jobIn ts at (getD cells at 0))) (jobsOf ts cells))
+
+        value : gain ≡ cond (eqb (getD cells at 0) 1) (taskOf ts (taskIn at) .value) 0
+        value = gained ∙ ap (λ (t : Task). cond (eqb (getD cells at 0) 1) (t .value) 0) (sym (task-number ts at))

@@ -1,0 +1,116 @@
+-- `policy::slot` meets its contract: the steps on cells are those of the rule.
+-- Assumes nothing.
+use mathlib.Core.Path.{_≡_, ap, _∙_, subst}
+use mathlib.Core.List.{_++_}
+use Prim.Native.Nat.{_<_}
+use Rattle.model.specs.Lists.{keep}
+use Rattle.model.specs.Slot.{canFinish, newJobs, key, first}
+use Rattle.policy.specs.View.{Tasks, slotCells, jobsOf, tasksIn, choiceIn, Cells, Chosen, Ruled}
+use Rattle.policy.proofs.Keys.{low-cells, low-left}
+use Rattle.policy.proofs.Rule.{slot-idle, slot-ran}
+use borrow.Author.Needs.{needs}
+use native.Mathlib.Omega.{arith}
+use Rattle.policy.proofs.slot.Statement.{statement}
+use Rattle.policy.proofs.slot.Tie as tie
+
+abbrev start : tie.After-drop-hopeless → tie.Start
+start d = d .before .before .before .before .before .before
+
+abbrev tasks : tie.After-drop-hopeless → Tasks
+tasks d = tasksIn (start d .args .rules)
+
+-- what the first two steps leave
+module _ (d : tie.After-drop-hopeless) where
+  ruled : Ruled (start d .args .rules)
+  ruled = start d .pre .0
+
+  readied : (jobsOf (tasks d) (d .drop-hopeless .result) ≡ keep canFinish (jobsOf (tasks d) (d .before .before .before .join .result)))
+      × Cells (tasks d) slotCells (d .drop-hopeless .result)
+  readied = d .drop-hopeless .ensures (tasks d) (ruled .left) (d .before .before .before .join .ensures .1)
+
+  dropped : jobsOf (tasks d) (d .drop-hopeless .result)
+      ≡ keep canFinish (jobsOf (tasks d) (start d .args .cells) ++ newJobs (tasks d) (start d .args .label) 1)
+  dropped = readied .0 ∙ ap (keep canFinish) (d .before .before .before .join .ensures .0)
+
+-- the job that is chosen
+chosen : (c : tie.After-choose) → Chosen (tasks (c .before .before .before)) (start (c .before .before .before) .args .rules .policy) (c .before .before .before .drop-hopeless .result) (c .choose .result)
+chosen c =
+    let d = c .before .before .before in
+    c .choose .ensures (tasks d) (ruled d .tasks) (ruled d .left) (readied d .1)
+
+inside : (c : tie.Else1) → c .before .choose .result < slotCells
+inside c = omega (arith, chosen (c .before) .bound, c .if1 .left)
+
+join-requires : tie.Need-join-requires
+join-requires c κs = search needs
+
+drop-hopeless-requires : tie.Need-drop-hopeless-requires
+drop-hopeless-requires c κs = search needs
+
+choose-requires : tie.Need-choose-requires
+choose-requires c κs =
+    let d = c .before .before in
+    (low-cells (tasks d) slotCells _ (ruled d .tasks) (readied d .1), low-left (tasks d) _ (ruled d .tasks) (ruled d .left))
+
+age-requires : tie.Need-age-requires
+age-requires c κs = search needs
+
+returns : tie.Need-returns
+returns c =
+    let ch = c .before .before .before .before in
+    let d = ch .before .before .before in
+    let aged = c .age .ensures (tasks d) (ruled d .tasks) (ruled d .left) (readied d .1) in (
+      λ P same by.
+          slot-idle P (tasks d) _ same by _ _ (d .drop-hopeless .result) (dropped d) _
+          (subst (λ k. choiceIn (tasks d) (d .drop-hopeless .result) k ≡ first (key (tasks d) (start d .args .rules .policy)) (jobsOf (tasks d) (d .drop-hopeless .result))) (c .before .before .before .if1 .taken) (chosen ch .choice))
+          (aged .0),
+      aged .1,
+    )
+
+array-read-gain-in : tie.Need-array-read-gain-in
+array-read-gain-in c = inside c
+
+gain-in-requires : tie.Need-gain-in-requires
+gain-in-requires c κs = search needs
+
+run-requires : tie.Need-run-requires
+run-requires c κs = (inside (c .before), chosen (c .before .before) .work (inside (c .before)))
+
+age-requires-2 : tie.Need-age-requires-2
+age-requires-2 c κs = search needs
+
+add-t29 : tie.Need-add-t29
+add-t29 c = search needs
+
+cast-t24 : tie.Need-cast-t24
+cast-t24 c = search needs
+
+returns-2 : tie.Need-returns-2
+returns-2 c =
+    let other = c .before .before .before .before .before in
+    let ch = other .before in
+    let d = ch .before .before .before in
+    let ran = c .before .before .before .run .ensures (tasks d) (readied d .1) in
+    let aged = c .age2 .ensures (tasks d) (ruled d .tasks) (ruled d .left) (ran .1) in (
+      λ P same by.
+          slot-ran P (tasks d) _ same by _ _ (d .drop-hopeless .result) (dropped d) (ch .choose .result) (inside other) (chosen ch .choice) _ _
+          (ran .0) (aged .0) _ (c .before .before .before .before .gain-in .ensures),
+      aged .1,
+    )
+
+pub slot-spec : {M : Type 1} → statement M
+slot-spec =
+    tie.close
+    (tie.spec
+    join-requires
+    drop-hopeless-requires
+    choose-requires
+    age-requires
+    returns
+    array-read-gain-in
+    gain-in-requires
+    run-requires
+    age-requires-2
+    add-t29
+    cast-t24
+    returns-2)

@@ -1,0 +1,37 @@
+-- `policy::task_in` meets its contract: the tasks given are the first ones.
+-- Assumes nothing.
+use mathlib.Core.Path.{_≡_, sym, ap, _∙_}
+use mathlib.Core.List.{List}
+use Prim.Native.Nat.{ℕ, _≤_, _<_}
+use lib.ListN.{getD, take, length-map, length-take, List·getD-map, List·getD-eq-default}
+use lib.Seq.{getD-take}
+use Rattle.model.specs.Slot.{noTask}
+use Rattle.plan.specs.declared.Task.{Task}
+use Rattle.plan.specs.View.{taskOf, tasksOf}
+use borrow.Author.Needs.{needs}
+use native.Mathlib.Omega.{arith}
+use Rattle.policy.proofs.task_in.Statement.{statement}
+use Rattle.policy.proofs.task_in.Tie as tie
+
+not-given : (ts : List Task) (n i : ℕ) → n ≤ i → getD (tasksOf ts n) i noTask ≡ noTask
+not-given ts n i h =
+    List·getD-eq-default (tasksOf ts n) noTask (omega (arith, length-map (take n ts) taskOf, length-take n ts))
+
+given : (ts : List Task) (n i : ℕ) → i < n → taskOf (getD ts i (record { work = 0; window = 0; value = 0 })) ≡ getD (tasksOf ts n) i noTask
+given ts n i h =
+    sym (List·getD-map taskOf (take n ts) i (record { work = 0; window = 0; value = 0 }) ∙ ap taskOf (getD-take n ts i (record { work = 0; window = 0; value = 0 }) h))
+
+returns : tie.Need-returns
+returns c = sym (not-given _ _ _ (c .if1 .taken))
+
+mul-result : tie.Need-mul-result
+mul-result c = search needs
+
+array-copy-out-result : tie.Need-array-copy-out-result
+array-copy-out-result c = search needs
+
+returns-2 : tie.Need-returns-2
+returns-2 c = given _ _ _ (c .before .if1 .left)
+
+pub task-in-spec : {M : Type 1} → statement M
+task-in-spec = tie.close (tie.spec returns mul-result array-copy-out-result returns-2)

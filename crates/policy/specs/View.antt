@@ -1,0 +1,135 @@
+-- What the cells of a node's jobs stand for.
+use mathlib.Core.Path.{_≡_}
+use mathlib.Core.Bool.{Bool, cond}
+use mathlib.Core.List.{List, [], _∷_, map}
+use mathlib.Core.Option.{Option, none, some}
+use Prim.Native.Nat.{ℕ, suc, _+_, _-_, _*_, _/_, _%_, _<_, _≤_}
+use lib.Dec.{eqb, ltb}
+use lib.ListN.{length, getD}
+use Rattle.model.specs.Limits.{maxTasks, maxWindow}
+use Rattle.model.specs.Lists.{consIf, flatMap, upFrom, bit}
+use Rattle.model.specs.Plan as model
+use Rattle.model.specs.Slot as model-slot
+use Rattle.model.specs.Slot.{Job, noTask, edf, srt, fifo, first, key}
+use Rattle.plan.specs.View.{tasksOf}
+use Rattle.policy.specs.declared.Rules.{Rules}
+use Rattle.policy.specs.declared.Done.{Done}
+
+abbrev pub Tasks : Type 0
+Tasks = List model.Task
+
+-- the cells between slots, where no job has age 0, and during a slot, where the new jobs are the last
+abbrev pub cellCount : ℕ
+cellCount = maxTasks * (maxWindow - 1)
+
+abbrev pub slotCells : ℕ
+slotCells = maxTasks * maxWindow
+
+-- of a job in the cell k: the task's number and place, and the age, the slots since its release
+abbrev pub taskIn : ℕ → ℕ
+taskIn k = suc (k % maxTasks)
+
+abbrev pub taskAt : Tasks → ℕ → model.Task
+taskAt ts k = getD ts (k % maxTasks) noTask
+
+abbrev pub ageIn : ℕ → ℕ
+ageIn k = maxWindow - suc (k / maxTasks)
+
+abbrev pub leftIn : Tasks → ℕ → ℕ
+leftIn ts k = taskAt ts k .window - ageIn k
+
+abbrev pub leftTable : Tasks → List ℕ
+leftTable ts = map (leftIn ts) (upFrom 0 slotCells)
+
+-- the job of the cell k with so much work remaining, and none where there is no work
+abbrev pub jobIn : Tasks → ℕ → ℕ → Job
+jobIn ts k w = record { task = taskIn k; work = w; left = leftIn ts k }
+
+abbrev pub jobsIn : Tasks → ℕ → ℕ → List Job
+jobsIn ts k w = consIf (ltb 0 w) (jobIn ts k w) []
+
+-- the jobs of the cells, in the cells' order
+unfoldable pub jobsOf : Tasks → List ℕ → List Job
+jobsOf ts cells = flatMap (λ k. jobsIn ts k (getD cells k 0)) (upFrom 0 (length cells))
+
+-- "1 ≤ C ≤ D ≤ 8"
+pub record InRange (t : model.Task) : Type 0 where
+  pub work : 1 ≤ t .work
+  pub within : t .work ≤ t .window
+  pub window : t .window ≤ maxWindow
+
+pub record TasksInRange (ts : Tasks) : Type 0 where
+  pub count : length ts ≤ maxTasks
+  pub each : (i : ℕ) → i < length ts → InRange (getD ts i noTask)
+
+-- n cells that a node can hold: the work of a job is at most its task's, and it has slots left
+pub record Cells (ts : Tasks) (n : ℕ) (cells : List ℕ) : Type 0 where
+  pub size : length cells ≡ n
+  pub work : (k : ℕ) → getD cells k 0 ≤ taskAt ts k .work
+  pub left : (k : ℕ) → 0 < getD cells k 0 → 0 < leftIn ts k
+
+abbrev pub hasWork : Job → Bool
+hasWork j = ltb 0 (j .work)
+
+-- the first k of n entries are f's
+pub record Filled (f : ℕ → ℕ) (n k : ℕ) (l : List ℕ) : Type 0 where
+  pub size : length l ≡ n
+  pub below : (j : ℕ) → j < k → getD l j 0 ≡ f j
+
+-- no number of a list is above maxWindow
+pub record Low (l : List ℕ) : Type 0 where
+  pub law : (k : ℕ) → getD l k 0 ≤ maxWindow
+
+-- the work of a new job of the task at i
+abbrev pub newWork : Tasks → ℕ → ℕ → ℕ
+newWork ts l i = cond (bit l i) (getD ts i noTask .work) 0
+
+-- The policies' keys, each as one number that orders as the key does.
+abbrev pub keyNumber : ℕ → ℕ → ℕ → ℕ
+keyNumber high task low = (high * suc maxTasks + task) * suc maxWindow + low
+
+unfoldable pub keyIn : ℕ → ℕ → ℕ → ℕ → ℕ
+keyIn policy k work left =
+    cond (eqb policy edf) (keyNumber left (taskIn k) 0)
+    (cond (eqb policy srt) (keyNumber work (taskIn k) left)
+    (cond (eqb policy fifo) (keyNumber (maxWindow - ageIn k) (taskIn k) 0)
+    (keyNumber 0 (taskIn k) left)))
+
+-- a key with its cell, which is below places; noCode where there is no job
+abbrev pub places : ℕ
+places = 64
+
+abbrev pub noCode : ℕ
+noCode = 65535
+
+unfoldable pub codeIn : ℕ → ℕ → ℕ → ℕ → ℕ
+codeIn policy k work left = cond (eqb work 0) noCode (keyIn policy k work left * places + k)
+
+-- the job of the cell at, none from slotCells on
+abbrev pub choiceIn : Tasks → List ℕ → ℕ → Option Job
+choiceIn ts cells at = cond (ltb at slotCells) (some (jobIn ts at (getD cells at 0))) none
+
+-- the cell at has the first job by the policy's key, if there is a job
+pub record Chosen (ts : Tasks) (policy : ℕ) (cells : List ℕ) (at : ℕ) : Type 0 where
+  pub bound : at ≤ slotCells
+  pub choice : choiceIn ts cells at ≡ first (key ts policy) (jobsOf ts cells)
+  pub work : at < slotCells → 0 < getD cells at 0
+
+-- the tasks of the rules, and the slots left by them
+abbrev pub tasksIn : Rules → Tasks
+tasksIn r = tasksOf (r .tasks) (r .count)
+
+pub record Ruled (r : Rules) : Type 0 where
+  pub count : r .count ≤ maxTasks
+  pub room : length (r .tasks) ≡ maxTasks
+  pub tasks : TasksInRange (tasksIn r)
+  pub left : r .left ≡ leftTable (tasksIn r)
+
+abbrev pub doneOf : Tasks → Done → model-slot.Done
+doneOf ts d = record { jobs = jobsOf ts (d .cells); ran = d .ran; gain = d .gain }
+
+abbrev pub ModelPlan : Type 0
+ModelPlan = model.Plan
+
+abbrev pub slotDone : ModelPlan → List Job → ℕ → model-slot.Done
+slotDone P js l = model-slot.slot P js l

@@ -1,0 +1,306 @@
+// One slot of a policy. A node's jobs are cells, oldest first, one to a task in each age: the cell of age a and
+// task i is at (MAX_WINDOW - 1 - a) * MAX_TASKS + i - 1 and holds the work remaining, 0 for no job.
+use plan::Plan;
+use plan::Task;
+ghost use mathlib.Core.Path.{_≡_};
+ghost use mathlib.Core.Bool.{cond};
+ghost use mathlib.Core.List.{[], _++_, map};
+ghost use Prim.Native.Nat.{ℕ, suc, _+_, _-_, _*_, _%_, _<_, _≤_};
+ghost use lib.Dec.{eqb, leb, ltb};
+ghost use lib.ListN.{length, getD};
+ghost use Rattle.model.specs.Limits.{maxTasks, maxWindow};
+ghost use Rattle.model.specs.Lists.{keep};
+ghost use Rattle.model.specs.Slot.{newJobs, canFinish, worked, tick, stays};
+ghost use Rattle.plan.specs.View.{taskOf, tasksOf};
+ghost use Rattle.policy.specs.View.{Tasks, cellCount, slotCells, taskIn, taskAt, leftIn, leftTable, jobIn, jobsOf, TasksInRange, Cells, Filled, Low, hasWork, newWork, keyNumber, keyIn, codeIn, Chosen, tasksIn, Ruled, doneOf, ModelPlan, slotDone};
+
+const MAX_TASKS: usize = 4;
+
+const MAX_WINDOW: usize = 8;
+
+// Cells between slots, where no job has age 0, and during a slot, where the new jobs are the last.
+pub const CELLS: usize = 28;
+
+pub const SLOT_CELLS: usize = 32;
+
+// The parts of a key are below these: a task, slots left or work, a cell.
+const TASK_BASE: u16 = 5;
+
+const WINDOW_BASE: u16 = 9;
+
+const PLACES: u16 = 64;
+
+// The code of no job, above that of any job.
+const NO_CODE: u16 = 65535;
+
+// The tasks and the policy of a plan, and the slots left of a job in each cell.
+pub struct Rules {
+    pub tasks: [Task; 4],
+    pub count: usize,
+    pub policy: u8,
+    pub left: [u8; 32],
+}
+
+// What a slot leaves: the cells, the task that ran, 0 for none, and the gain.
+pub struct Done {
+    pub cells: [u8; 28],
+    pub ran: u8,
+    pub gain: u8,
+}
+
+// The task of a cell; one with no work and no window where it is not there.
+fn task_in(tasks: [Task; 4], count: usize, k: usize) -> Task
+    requires { ⌜ length tasks ≡ maxTasks ⌝ }
+    ensures { λ r. ⌜ taskOf r ≡ taskAt (tasksOf tasks count) k ⌝ }
+{
+    let i = k % MAX_TASKS;
+    if count <= i {
+        return Task {
+            work: 0,
+            window: 0,
+            value: 0,
+        };
+    }
+    tasks[i]
+}
+
+// The slots left of a job in a cell.
+fn left_in(tasks: [Task; 4], count: usize, k: usize) -> u8
+    requires { ⌜ (length tasks ≡ maxTasks) × (k < slotCells) ⌝ }
+    ensures { λ r. ⌜ r ≡ leftIn (tasksOf tasks count) k ⌝ }
+{
+    let task = task_in(tasks, count, k);
+    let window = task.window;
+    let age = (MAX_WINDOW - (k / MAX_TASKS + 1)) as u8;
+    if window <= age {
+        return 0;
+    }
+    window - age
+}
+
+// The slots left of a job in each cell.
+fn left_table(tasks: [Task; 4], count: usize) -> [u8; 32]
+    requires { ⌜ length tasks ≡ maxTasks ⌝ }
+    ensures { λ r. ⌜ r ≡ leftTable (tasksOf tasks count) ⌝ }
+{
+    let mut left = [0u8; 32];
+    let mut k = 0;
+    while k < SLOT_CELLS {
+        left[k] = left_in(tasks, count, k);
+        k += 1;
+    }
+    left
+}
+
+// The rules of a plan.
+pub fn rules_of(plan: Plan) -> Rules
+    requires { ⌜ (plan .count ≤ maxTasks) × (length (plan .tasks) ≡ maxTasks) × TasksInRange (tasksOf (plan .tasks) (plan .count)) ⌝ }
+    ensures { λ r. ⌜ Ruled r × (tasksIn r ≡ tasksOf (plan .tasks) (plan .count)) × (r .policy ≡ plan .policy) ⌝ }
+{
+    let tasks = plan.tasks;
+    let count = plan.count;
+    let left = left_table(tasks, count);
+    Rules {
+        tasks,
+        count,
+        policy: plan.policy,
+        left,
+    }
+}
+
+// The cells of no jobs.
+pub fn no_jobs() -> [u8; 28]
+    ensures { λ r. ⌜ ((ts : Tasks) → (jobsOf ts r ≡ []) × Cells ts cellCount r) ⌝ }
+{
+    [0; 28]
+}
+
+// The work of a new job of the task at i, 0 where the label has none.
+fn new_work(tasks: [Task; 4], count: usize, label: u8, i: usize) -> u8
+    requires { ⌜ (length tasks ≡ maxTasks) × (i < maxTasks) ⌝ }
+    ensures { λ r. ⌜ r ≡ newWork (tasksOf tasks count) label i ⌝ }
+{
+    if (label >> i) % 2 == 0 {
+        return 0;
+    }
+    let task = task_in(tasks, count, i);
+    task.work
+}
+
+// The cells with room for new jobs.
+fn widen(cells: [u8; 28]) -> [u8; 32]
+    ensures { λ r. ⌜ Filled (λ k. getD cells k 0) slotCells cellCount r ⌝ }
+{
+    let mut wide = [0u8; 32];
+    let mut k = 0;
+    while k < CELLS {
+        wide[k] = cells[k];
+        k += 1;
+    }
+    wide
+}
+
+// 1. The label's new jobs join.
+fn join(tasks: [Task; 4], count: usize, cells: [u8; 28], label: u8) -> [u8; 32]
+    requires { ⌜ (length tasks ≡ maxTasks) × TasksInRange (tasksOf tasks count) × Cells (tasksOf tasks count) cellCount cells ⌝ }
+    ensures { λ r. ⌜ (jobsOf (tasksOf tasks count) r ≡ jobsOf (tasksOf tasks count) cells ++ newJobs (tasksOf tasks count) label 1) × Cells (tasksOf tasks count) slotCells r ⌝ }
+{
+    let mut joined = widen(cells);
+    let mut i = 0;
+    while i < MAX_TASKS {
+        joined[CELLS + i] = new_work(tasks, count, label, i);
+        i += 1;
+    }
+    joined
+}
+
+// The work of a job that can finish, 0 of one that cannot.
+fn if_hopeful(work: u8, left: u8) -> u8
+    ensures { λ r. ⌜ r ≡ cond (leb work left) work 0 ⌝ }
+{
+    if work <= left { work } else { 0 }
+}
+
+// 2. Each job with more work remaining than slots left is dropped.
+fn drop_hopeless(cells: &[u8; 32], left: &[u8; 32]) -> [u8; 32]
+    ensures { λ r. ⌜ ((ts : Tasks) → now (left .entry) ≡ leftTable ts → Cells ts slotCells (now (cells .entry)) → (jobsOf ts r ≡ keep canFinish (jobsOf ts (now (cells .entry)))) × Cells ts slotCells r) ⌝ }
+{
+    let mut kept = [0u8; 32];
+    let mut k = 0;
+    while k < SLOT_CELLS {
+        kept[k] = if_hopeful(cells[k], left[k]);
+        k += 1;
+    }
+    kept
+}
+
+// The parts of a key as one number.
+fn key(high: u16, task: u16, low: u16) -> u16
+    requires { ⌜ (high ≤ maxWindow) × (task ≤ maxTasks) × (low ≤ maxWindow) ⌝ }
+    ensures { λ r. ⌜ r ≡ keyNumber high task low ⌝ }
+{
+    (high * TASK_BASE + task) * WINDOW_BASE + low
+}
+
+// The key of a job by the policy: EDF, SRT, FIFO, else SP.
+fn key_of(policy: u8, k: usize, work: u8, left: u8) -> u16
+    requires { ⌜ (k < slotCells) × (work ≤ maxWindow) × (left ≤ maxWindow) ⌝ }
+    ensures { λ r. ⌜ r ≡ keyIn policy k work left ⌝ }
+{
+    let task = (k % MAX_TASKS + 1) as u16;
+    let age = (MAX_WINDOW - (k / MAX_TASKS + 1)) as u16;
+    let released = MAX_WINDOW as u16 - age;
+    let work = work as u16;
+    let left = left as u16;
+    match policy {
+        1 => key(left, task, 0),
+        2 => key(work, task, left),
+        3 => key(released, task, 0),
+        _ => key(0, task, left),
+    }
+}
+
+// A job's key with its cell.
+fn code_of(policy: u8, k: usize, work: u8, left: u8) -> u16
+    requires { ⌜ (k < slotCells) × (work ≤ maxWindow) × (left ≤ maxWindow) ⌝ }
+    ensures { λ r. ⌜ r ≡ codeIn policy k work left ⌝ }
+{
+    if work == 0 {
+        return NO_CODE;
+    }
+    key_of(policy, k, work, left) * PLACES + k as u16
+}
+
+fn least(a: u16, b: u16) -> u16
+    ensures { λ r. ⌜ r ≡ cond (ltb b a) b a ⌝ }
+{
+    if b < a { b } else { a }
+}
+
+// 3. The cell of the first job by the policy's key; SLOT_CELLS where there is no job.
+fn choose(policy: u8, cells: &[u8; 32], left: &[u8; 32]) -> usize
+    requires { ⌜ Low (now cells) × Low (now left) ⌝ }
+    ensures { λ r. ⌜ ((ts : Tasks) → TasksInRange ts → now (left .entry) ≡ leftTable ts → Cells ts slotCells (now (cells .entry)) → Chosen ts policy (now (cells .entry)) r) ⌝ }
+{
+    let mut best = NO_CODE;
+    let mut k = 0;
+    while k < SLOT_CELLS {
+        best = least(best, code_of(policy, k, cells[k], left[k]));
+        k += 1;
+    }
+    if best == NO_CODE {
+        return SLOT_CELLS;
+    }
+    (best % PLACES) as usize
+}
+
+// The job in a cell runs: its work falls by 1.
+fn run(cells: [u8; 32], at: usize) -> [u8; 32]
+    requires { ⌜ (at < slotCells) × (0 < getD cells at 0) ⌝ }
+    ensures { λ r. ⌜ ((ts : Tasks) → Cells ts slotCells cells → (jobsOf ts r ≡ keep hasWork (map (worked (jobIn ts at (getD cells at 0))) (jobsOf ts cells))) × Cells ts slotCells r) ⌝ }
+{
+    let mut after = cells;
+    after[at] = cells[at] - 1;
+    after
+}
+
+// The work of a job that has a slot left after this one, 0 of one that has not.
+fn if_staying(work: u8, left: u8) -> u8
+    ensures { λ r. ⌜ r ≡ cond (ltb 1 left) work 0 ⌝ }
+{
+    if 1 < left { work } else { 0 }
+}
+
+// 4. Slots left falls by 1, and at 0 the job goes.
+fn age(cells: &[u8; 32], left: &[u8; 32]) -> [u8; 28]
+    ensures { λ r. ⌜ ((ts : Tasks) → TasksInRange ts → now (left .entry) ≡ leftTable ts → Cells ts slotCells (now (cells .entry)) → (jobsOf ts r ≡ keep stays (map tick (jobsOf ts (now (cells .entry))))) × Cells ts cellCount r) ⌝ }
+{
+    let mut older = [0u8; 28];
+    let mut k = 0;
+    while k < CELLS {
+        older[k] = if_staying(cells[k + MAX_TASKS], left[k + MAX_TASKS]);
+        k += 1;
+    }
+    older
+}
+
+// The gain where a job with so much work remaining runs.
+fn gain_in(tasks: [Task; 4], count: usize, k: usize, work: u8) -> u8
+    requires { ⌜ length tasks ≡ maxTasks ⌝ }
+    ensures { λ r. ⌜ r ≡ cond (eqb work 1) (taskAt (tasksOf tasks count) k .value) 0 ⌝ }
+{
+    if work == 1 {
+        let task = task_in(tasks, count, k);
+        return task.value;
+    }
+    0
+}
+
+// One slot with a label, from the cells that the slot before left.
+pub fn slot(rules: Rules, cells: [u8; 28], label: u8) -> Done
+    requires { ⌜ Ruled rules × Cells (tasksIn rules) cellCount cells ⌝ }
+    ensures { λ r. ⌜ ((P : ModelPlan) → P .tasks ≡ tasksIn rules → P .policy ≡ rules .policy → doneOf (tasksIn rules) r ≡ slotDone P (jobsOf (tasksIn rules) cells) label) × Cells (tasksIn rules) cellCount (r .cells) ⌝ }
+{
+    let tasks = rules.tasks;
+    let count = rules.count;
+    let left = rules.left;
+    let joined = join(tasks, count, cells, label);
+    let ready = drop_hopeless(&joined, &left);
+    let at = choose(rules.policy, &ready, &left);
+    if at == SLOT_CELLS {
+        let older = age(&ready, &left);
+        return Done {
+            cells: older,
+            ran: 0,
+            gain: 0,
+        };
+    }
+    let gain = gain_in(tasks, count, at, ready[at]);
+    let after = run(ready, at);
+    let older = age(&after, &left);
+    Done {
+        cells: older,
+        ran: (at % MAX_TASKS + 1) as u8,
+        gain,
+    }
+}
