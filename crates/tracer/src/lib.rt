@@ -1,18 +1,45 @@
 // The trace call: what a policy does, slot by slot.
+use plan::Fault;
+use plan::Outcome;
+use policy::Rules;
+
 ghost use mathlib.Core.Path.{_≡_};
-ghost use mathlib.Core.List.{_∷_};
-ghost use Prim.Native.Nat.{_+_, _≤_};
+ghost use mathlib.Core.List.{[], _∷_};
+ghost use Prim.Native.Nat.{_+_, _*_, _≤_};
 ghost use lib.ListN.{length};
 ghost use Rattle.model.specs.Bytes.{bytes, overwrite};
-ghost use Rattle.model.specs.Plan.{Plan};
+ghost use Rattle.model.specs.Limits.{traceRoom};
+ghost use Rattle.model.specs.Plan as model;
 ghost use Rattle.model.specs.Schedule.{admits};
-ghost use Rattle.plan.specs.View.{arcsIn};
-ghost use Rattle.tracer.specs.Trace.{StatesFit};
+ghost use Rattle.model.specs.Trace as model-trace;
+ghost use Rattle.plan.specs.View.{arcsIn, planOf};
+ghost use Rattle.policy.specs.View.{tasksIn, Ruled};
+ghost use Rattle.tracer.specs.Promise.{StatesFit, Told, Traces};
+
+// The most that a trace takes, and the most labels.
+pub const TRACE_ROOM: usize = 12288;
+
+pub const MAX_LABELS: usize = 4096;
+
+// Why no trace is written: the output is too short, the plan has a fault, there are too many labels,
+// or one of them is not admitted.
+pub enum Refusal {
+    ShortMemory,
+    Plan(Fault),
+    TooManyLabels,
+    NotAdmitted,
+}
+
+// A trace that is written has so many bytes.
+pub enum Answer {
+    Refused(Refusal),
+    Written(usize),
+}
 
 // Whether a plan with this table admits the labels.
 fn admitted(next: &[u8; 256], labels: &[u8]) -> bool
     requires { ⌜ StatesFit (now next) ⌝ }
-    ensures { λ b. ⌜ ((P : Plan) → P .arcs ≡ arcsIn (now (next .entry)) → b ≡ admits P (now (labels .entry))) ⌝ }
+    ensures { λ b. ⌜ ((P : model.Plan) → P .arcs ≡ arcsIn (now (next .entry)) → b ≡ admits P (now (labels .entry))) ⌝ }
 {
     let mut state = 0;
     let mut i = 0;
@@ -34,4 +61,19 @@ fn put_slot(out: &mut [u8], at: usize, ran: u8, gain: u8)
 {
     out[at] = ran;
     words::write_u16(out, at + 1, gain as u16);
+}
+
+// Writes what each label's slot did.
+fn write_slots(rules: Rules, labels: &[u8], out: &mut [u8])
+    requires { ⌜ Ruled rules × (3 * length (now labels) ≤ length (now out)) ⌝ }
+    ensures { λ _. ⌜ ((P : model.Plan) → P .tasks ≡ tasksIn rules → P .policy ≡ rules .policy → now (out .exit) ≡ overwrite (now (out .entry)) 0 (model-trace.traceBytes (model-trace.slots P [] (now (labels .entry))))) ⌝ }
+{
+    let mut cells = policy::no_jobs();
+    let mut i = 0;
+    while i < labels.len() {
+        let done = policy::slot(rules, cells, labels[i]);
+        put_slot(out, 3 * i, done.ran, done.gain);
+        cells = done.cells;
+        i += 1;
+    }
 }

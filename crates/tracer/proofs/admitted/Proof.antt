@@ -15,7 +15,7 @@ use Rattle.model.specs.Limits.{maxStates}
 use Rattle.model.specs.Plan.{Plan, nextIn}
 use Rattle.model.specs.Schedule.{admits, admitsFrom}
 use Rattle.plan.specs.View.{arcsIn, nextOf}
-use Rattle.tracer.specs.Trace.{StatesFit}
+use Rattle.tracer.specs.Promise.{StatesFit}
 use Rattle.tracer.proofs.admitted.Statement.{statement}
 use Rattle.tracer.proofs.admitted.Tie as tie
 

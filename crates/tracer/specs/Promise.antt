@@ -1,0 +1,39 @@
+-- What the trace call promises.
+use mathlib.Core.Path.{_≡_}
+use mathlib.Core.List.{List}
+use mathlib.Core.Option.{some}
+use Prim.Native.Nat.{ℕ, _<_}
+use lib.ListN.{length}
+use Rattle.model.specs.Limits.{maxStates}
+use Rattle.model.specs.Refusals.{shortMemory, tooManyLabels, notAdmitted}
+use Rattle.model.specs.Plan.{nextIn}
+use Rattle.model.specs.Trace.{TraceAnswer, TraceResult, trace, resultOf, outputAfter}
+use Rattle.plan.specs.View.{arcsIn, faultNumber}
+use Rattle.tracer.specs.declared.Refusal.{Refusal}
+use Rattle.tracer.specs.declared.Refusal.the-variants.{ShortMemory, Plan, TooManyLabels, NotAdmitted}
+use Rattle.tracer.specs.declared.Answer.{Answer}
+use Rattle.tracer.specs.declared.Answer.the-variants.{Refused, Written}
+
+-- every next state of the table is a state
+pub record StatesFit (next : List ℕ) : Type 0 where
+  pub to : (s l t : ℕ) → nextIn (arcsIn next) s l ≡ some t → t < maxStates
+
+-- the number of each refusal
+abbrev pub refusalNumber : Refusal → ℕ
+refusalNumber ShortMemory = shortMemory
+refusalNumber (Plan f) = faultNumber f
+refusalNumber TooManyLabels = tooManyLabels
+refusalNumber NotAdmitted = notAdmitted
+
+abbrev pub answerOf : Answer → TraceResult
+answerOf (Refused r) = TraceResult.refused (refusalNumber r)
+answerOf (Written n) = TraceResult.written n
+
+-- the call told this answer: its result, and what the output then holds
+pub record Told (a : TraceAnswer) (before after : List ℕ) (r : Answer) : Type 0 where
+  pub answer : answerOf r ≡ resultOf a
+  pub output : after ≡ outputAfter a before
+
+-- for all plan bytes, labels and output
+abbrev pub Traces : List ℕ → List ℕ → List ℕ → List ℕ → Answer → Type 0
+Traces plan labels before after r = Told (trace plan labels (length before)) before after r
