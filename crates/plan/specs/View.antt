@@ -83,6 +83,12 @@ answerOf a = answerWith (a .outcome) (planOf (a .plan))
 abbrev pub planRead : model.Reading → model.Plan
 planRead r = record { tasks = r .tasks; policy = r .policy; states = r .states; arcs = r .arcs }
 
+-- the parts of a plan have their sizes
+pub record Sized (p : Plan) : Type 0 where
+  pub fits : p .count ≤ maxTasks
+  pub room : length (p .tasks) ≡ maxTasks
+  pub table : length (p .next) ≡ pairCount
+
 -- the counts are within their limits
 pub record Within (r : Reading) : Type 0 where
   pub fits : r .count ≤ maxTasks

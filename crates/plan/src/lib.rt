@@ -5,7 +5,7 @@ ghost use mathlib.Core.List.{List};
 ghost use lib.ListN.{length, getD, replicate};
 ghost use Rattle.model.specs.Plan.{Arc, nextIn, width, mayFollow, between, taskInRange, arcInRange, inRange, pairRises, firstFault, fault, after, readPlan};
 ghost use Rattle.model.specs.Limits.{maxTasks, maxStates};
-ghost use Rattle.plan.specs.View.{faultNumber, checkNumber, answerOf, answerWith, planRead, readingOf, nothingReadWith, arcsIn, nextOf, labelCount, pairCount, Within, Least, Holds, Readable, ReadableArc, Reads, ReadsAside};
+ghost use Rattle.plan.specs.View.{faultNumber, checkNumber, answerOf, answerWith, planRead, readingOf, nothingReadWith, arcsIn, nextOf, labelCount, pairCount, Sized, Within, Least, Holds, Readable, ReadableArc, Reads, ReadsAside};
 
 const MAX_TASKS: usize = 4;
 
@@ -333,6 +333,8 @@ fn nothing_read() -> Reading
 
 // The answer, with the plan that has been read.
 fn answer(outcome: Outcome, r: Reading, next: [u8; 256]) -> PlanRead
+    requires { ⌜ Within r × Holds next (r .least) ⌝ }
+    ensures { λ a. ⌜ Sized (a .plan) ⌝ }
     ensures { λ a. ⌜ answerOf a ≡ answerWith outcome (planRead (readingOf r (arcsIn next))) ⌝ }
 {
     let tasks = r.tasks;
@@ -355,6 +357,7 @@ fn empty_table() -> [u8; 256]
 
 // The plan that the bytes are, or their first fault.
 pub fn read(s: &[u8]) -> PlanRead
+    ensures { λ a. ⌜ Sized (a .plan) ⌝ }
     ensures { λ a. ⌜ answerOf a ≡ readPlan (now (s .entry)) ⌝ }
 {
     let mut next = empty_table();

@@ -2,7 +2,6 @@
 use plan::Fault;
 use plan::Outcome;
 use policy::Rules;
-
 ghost use mathlib.Core.Path.{_≡_};
 ghost use mathlib.Core.List.{[], _∷_};
 ghost use Prim.Native.Nat.{_+_, _*_, _≤_};

@@ -84,12 +84,12 @@ enum-told : tie.Need-enum-told Inv-loop μ-loop
 enum-told c = search needs
 
 answer-requires : tie.Need-answer-requires Inv-loop μ-loop
-answer-requires c κs = search needs
+answer-requires c κs = let i = head (c .before .before) .loop .inv in (i .within, i .holds)
 
 returns : tie.Need-returns Inv-loop μ-loop
 returns c =
     let f = c .before .before .before in
-    c .answer .ensures ∙ refused _ _ _ _ (head f .loop .inv) (more f) _ _ _ (c .before .enum-told .given .1) (found f)
+    (c .answer .ensures .0, c .answer .ensures .1 ∙ refused _ _ _ _ (head f .loop .inv) (more f) _ _ _ (c .before .enum-told .given .1) (found f))
 
 enum-told-2 : tie.Need-enum-told-2 Inv-loop μ-loop
 enum-told-2 c = search needs
@@ -130,20 +130,20 @@ loop-again : tie.Need-loop-again Inv-loop μ-loop
 loop-again c = reached c
 
 answer-requires-2 : tie.Need-answer-requires-2 Inv-loop μ-loop
-answer-requires-2 c κs = search needs
+answer-requires-2 c κs = let i = c .before .before .loop .inv in (i .within, i .holds)
 
 returns-2 : tie.Need-returns-2 Inv-loop μ-loop
 returns-2 c =
     let l = c .before .before in
-    c .answer2 .ensures ∙ sym (reached-end _ _ _ _ (l .before .loop .inv) (l .loop-test .left) ∙ simp (c .before .if1 .taken))
+    (c .answer2 .ensures .0, c .answer2 .ensures .1 ∙ sym (reached-end _ _ _ _ (l .before .loop .inv) (l .loop-test .left) ∙ simp (c .before .if1 .taken)))
 
 answer-requires-3 : tie.Need-answer-requires-3 Inv-loop μ-loop
-answer-requires-3 c κs = search needs
+answer-requires-3 c κs = let i = c .before .before .loop .inv in (i .within, i .holds)
 
 returns-3 : tie.Need-returns-3 Inv-loop μ-loop
 returns-3 c =
     let l = c .before .before in
-    c .answer3 .ensures ∙ sym (reached-end _ _ _ _ (l .before .loop .inv) (l .loop-test .left) ∙ simp (c .before .if1 .left))
+    (c .answer3 .ensures .0, c .answer3 .ensures .1 ∙ sym (reached-end _ _ _ _ (l .before .loop .inv) (l .loop-test .left) ∙ simp (c .before .if1 .left)))
 
 pub read-spec : {M : Type 1} → statement M
 read-spec =

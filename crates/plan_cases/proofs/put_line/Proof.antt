@@ -58,7 +58,7 @@ returns c =
     let b = c .before .before in
     let t = b .before .before .before in
     let p = b .put-bytes .ensures in
-    (as-line (planOf (t .before .before .read .result .plan)) (t .before .before .read .result .outcome) (t .before .before .read .ensures) (t .enum-told .given .1) refl p, counted _ _ (omega (arith, p .next)))
+    (as-line (planOf (t .before .before .read .result .plan)) (t .before .before .read .result .outcome) (t .before .before .read .ensures .1) (t .enum-told .given .1) refl p, counted _ _ (omega (arith, p .next)))
 
 same-length-2 : tie.Need-same-length-2
 same-length-2 c = search needs
@@ -68,7 +68,7 @@ returns-2 c =
     let b = c .before .before in
     let t = b .before .before .before .before in
     let p = b .put-refusal .ensures in
-    (as-line (planOf (t .before .before .read .result .plan)) (t .before .before .read .result .outcome) (t .before .before .read .ensures) (t .outcome .given .1) (ap refusedLine (sym (b .before .number .ensures))) p, counted _ _ (omega (arith, p .next, refused-length (b .before .number .result), decimal-length 19 (b .before .number .result) (omega arith))))
+    (as-line (planOf (t .before .before .read .result .plan)) (t .before .before .read .result .outcome) (t .before .before .read .ensures .1) (t .outcome .given .1) (ap refusedLine (sym (b .before .number .ensures))) p, counted _ _ (omega (arith, p .next, refused-length (b .before .number .result), decimal-length 19 (b .before .number .result) (omega arith))))
 
 pub put-line-spec : {M : Type 1} → statement M
 put-line-spec =

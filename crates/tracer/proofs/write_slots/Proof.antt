@@ -90,7 +90,7 @@ loop-again c =
     let l = d .before .before .before in
     rw (add-one (l .loop .i))
     (reached-next _ _ _ _ _ _ (entry l .pre .1) (l .loop .inv) (d .before .before .loop-test .taken) (d .slot .result) _
-      (d .slot .ensures .0) (d .slot .ensures .1) (c .before .before .before .put-slot .ensures) (c .before .before .before .put-slot .kept .0))
+    (d .slot .ensures .0) (d .slot .ensures .1) (c .before .before .before .put-slot .ensures) (c .before .before .before .put-slot .kept .0))
 
 same-length : tie.Need-same-length Inv-loop μ-loop
 same-length c = c .before .loop .inv .size
