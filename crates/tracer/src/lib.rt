@@ -1,6 +1,7 @@
 // The trace call: what a policy does, slot by slot.
 use plan::Fault;
 use plan::Outcome;
+use plan::Plan;
 use policy::Rules;
 ghost use mathlib.Core.Path.{_≡_};
 ghost use mathlib.Core.List.{[], _∷_};
@@ -11,7 +12,7 @@ ghost use Rattle.model.specs.Limits.{traceRoom};
 ghost use Rattle.model.specs.Plan as model;
 ghost use Rattle.model.specs.Schedule.{admits};
 ghost use Rattle.model.specs.Trace as model-trace;
-ghost use Rattle.plan.specs.View.{arcsIn, planOf};
+ghost use Rattle.plan.specs.View.{arcsIn, planOf, Sized};
 ghost use Rattle.policy.specs.View.{tasksIn, Ruled};
 ghost use Rattle.tracer.specs.Promise.{StatesFit, Told, Traces};
 
@@ -74,5 +75,38 @@ fn write_slots(rules: Rules, labels: &[u8], out: &mut [u8])
         put_slot(out, 3 * i, done.ran, done.gain);
         cells = done.cells;
         i += 1;
+    }
+}
+
+// The trace of a sound plan.
+fn trace_plan(plan: Plan, labels: &[u8], out: &mut [u8]) -> Answer
+    requires { ⌜ Sized plan × model.IsSound (planOf plan) × (traceRoom ≤ length (now out)) ⌝ }
+    ensures { λ r. ⌜ Told (model-trace.traceRun (planOf plan) (now (labels .entry))) (now (out .entry)) (now (out .exit)) r ⌝ }
+{
+    let n = labels.len();
+    if MAX_LABELS < n {
+        return Answer::Refused(Refusal::TooManyLabels);
+    }
+    let next = plan.next;
+    if !admitted(&next, labels) {
+        return Answer::Refused(Refusal::NotAdmitted);
+    }
+    write_slots(policy::rules_of(plan), labels, out);
+    Answer::Written(3 * n)
+}
+
+// The trace of the plan's policy over the labels, for all bytes.
+pub fn trace(plan: &[u8], labels: &[u8], out: &mut [u8]) -> Answer
+    ensures { λ r. ⌜ Traces (now (plan .entry)) (now (labels .entry)) (now (out .entry)) (now (out .exit)) r ⌝ }
+{
+    if out.len() < TRACE_ROOM {
+        return Answer::Refused(Refusal::ShortMemory);
+    }
+    let read = plan::read(plan);
+    let outcome = read.outcome;
+    let found = read.plan;
+    match outcome {
+        Outcome::Faulty(f) => Answer::Refused(Refusal::Plan(f)),
+        Outcome::Sound => trace_plan(found, labels, out),
     }
 }
