@@ -84,10 +84,10 @@ fn trace_plan(plan: Plan, labels: &[u8], out: &mut [u8]) -> Answer
     ensures { λ r. ⌜ Told (model-trace.traceRun (planOf plan) (now (labels .entry))) (now (out .entry)) (now (out .exit)) r ⌝ }
 {
     let n = labels.len();
+    let next = plan.next;
     if MAX_LABELS < n {
         return Answer::Refused(Refusal::TooManyLabels);
     }
-    let next = plan.next;
     if !admitted(&next, labels) {
         return Answer::Refused(Refusal::NotAdmitted);
     }

@@ -19,7 +19,7 @@ admitted-requires c κs = let s = c .before .before .before .before .before in s
 returns-2 : tie.Need-returns-2
 returns-2 c =
     let a = c .before in
-    told-refusal _ _ _ (not-admitted _ _ (a .before .before .before .if1 .left) (sym (a .admitted .ensures _ refl) ∙ not-true _ (c .if2 .taken)))
+    told-refusal _ _ _ (not-admitted _ _ (a .before .before .if1 .left) (sym (a .admitted .ensures _ refl) ∙ not-true _ (c .if2 .taken)))
 
 rules-of-requires : tie.Need-rules-of-requires
 rules-of-requires c κs =
@@ -42,7 +42,7 @@ returns-3 c =
     let a = r .before .before in
     let s = a .before .before .before .before .before .before in
     let P = planOf (s .args .plan) in
-    told-trace _ P (now (s .args .labels)) _ _ (all-admitted _ _ (a .before .before .before .if1 .left) (sym (a .admitted .ensures P refl) ∙ not-false _ (r .before .if2 .left)))
+    told-trace _ P (now (s .args .labels)) _ _ (all-admitted _ _ (a .before .before .if1 .left) (sym (a .admitted .ensures P refl) ∙ not-false _ (r .before .if2 .left)))
     (w .write-slots .ensures P (sym (r .rules-of .ensures .1)) (sym (r .rules-of .ensures .2)))
 
 pub trace-plan-spec : {M : Type 1} → statement M
