@@ -2,6 +2,7 @@
 -- Assumes nothing.
 use mathlib.Core.Path.{_≡_, refl, _∙_, ap, subst}
 use mathlib.Core.Bool.{true, false}
+use mathlib.Core.Option.{some}
 use mathlib.Core.List.{List, _++_, List·Memᴰ}
 use Prim.Native.Nat.{ℕ, _<_}
 use native.Mathlib.Omega.{arith}
@@ -12,7 +13,7 @@ use Rattle.model.specs.Lists.{all}
 use Rattle.model.specs.Plan.{Plan}
 use Rattle.model.specs.Graph.{Node, Edge, start, nodes, tooLarge}
 use Rattle.model.specs.Walk.{Walk}
-use Rattle.model.specs.Certificate.{Certificate}
+use Rattle.model.specs.Certificate.{Certificate, certificateBytes, readCertificate}
 use Rattle.model.specs.Check.{withinLimit, fractionOk, edgesOkFrom, potentialsOk, cycleOk}
 use Rattle.model.specs.Solve.{cost, Smallest, Solved}
 use Rattle.model.proofs.Lists.{place}
@@ -24,7 +25,7 @@ use Rattle.theory.proofs.Cycles.{walk-append}
 use Rattle.theory.proofs.Nodes.{start-in-nodes, nodes-fit, nodes-closed}
 use Rattle.theory.proofs.Costs.{cost-append}
 use Rattle.theory.proofs.Potentials.{potentialOf}
-use Rattle.theory.proofs.Accepted.{Sized, accepted-iff}
+use Rattle.theory.proofs.Accepted.{accepted-iff}
 use Rattle.theory.proofs.Distances.{AllSmallest, smallest-at, smallest-pass}
 use Rattle.theory.proofs.Short.{NoLoss, simple, simple-short}
 use Rattle.theory.proofs.Gains.{cost-within}
@@ -69,9 +70,10 @@ module _ (P : Plan) (fits : tooLarge P ≡ false) (p q : ℕ) (zs : List ℤ) (s
     smallest-ok = true-and (all withinLimit zs) (edgesOkFrom P (nodes P) p q zs 0 (nodes P)) smallest-within (smallest-pass P fits p q zs smallest)
 
 -- such a certificate may be written for the plan
-pub solved-of : (P : Plan) → PlanSound P → tooLarge P ≡ false → (c : Certificate) → Sized c → c .count ≡ length (nodes P) →
+pub solved-of : (P : Plan) → PlanSound P → tooLarge P ≡ false → (c : Certificate) → readCertificate (certificateBytes c) ≡ some c → length (c .potentials) ≡ length (nodes P) →
     fractionOk (c .p) (c .q) ≡ true → AllSmallest P (c .p) (c .q) (c .potentials) → cycleOk P (nodes P) c ≡ true → Solved P c
-solved-of P sd fits c sized counted ok smallest cycle = record {
+solved-of P sd fits c form counted ok smallest cycle = record {
+  form = form;
   accepted =
       accepted-iff P c .1
       (record {
@@ -81,7 +83,7 @@ solved-of P sd fits c sized counted ok smallest cycle = record {
         isAllowance = refl;
         fraction = ok;
         counted = counted;
-        potentials = smallest-ok P fits (c .p) (c .q) (c .potentials) smallest sd ok (sized ∙ counted);
+        potentials = smallest-ok P fits (c .p) (c .q) (c .potentials) smallest sd ok counted;
         cycle = cycle;
       });
   potentials = smallest;
