@@ -12,6 +12,7 @@ pub mod Nodes
 pub mod Costs
 pub mod Potentials
 pub mod Steps
+pub mod Form
 pub mod Accepted
 pub mod Claim
 pub mod Distances
