@@ -12,7 +12,6 @@ pub mod Nodes
 pub mod Costs
 pub mod Potentials
 pub mod Steps
-pub mod Form
 pub mod Accepted
 pub mod Claim
 pub mod Distances
@@ -20,4 +19,5 @@ pub mod Examples
 pub mod Written
 pub mod Short
 pub mod Gains
+pub mod Form
 pub mod Solved

@@ -91,25 +91,30 @@ closes-tight P p q u ss (some r) f h =
       exact = ap (λ (n : ℕ). p * n) (sym gains) ∙ eqb-true _ _ (three .1) ∙ ap (λ (n : ℕ). q * n) keeps;
     }
 
--- the cycle that the checker accepts is such a one, at a node of the list
-pub cycle-tight : (P : Plan) (ns : List Node) (c : Certificate) → 0 < c .q → cycleOk P ns c ≡ true →
-    (c .node < length ns) × Tight P (c .p) (c .q) (getD ns (c .node) start)
+-- the cycle that the checker accepts starts at a node of the list, and its steps close
+pub cycle-closes : (P : Plan) (ns : List Node) (c : Certificate) → 0 < c .q → cycleOk P ns c ≡ true →
+    (c .node < length ns)
+    × (closes (c .p) (c .q) (getD ns (c .node) start) (follow P (c .steps) (record { at = getD ns (c .node) start; kept = 0; ideal = 0 })) ≡ true)
 unfolding cycleOk
-cycle-tight P ns c h ok =
+cycle-closes P ns c h ok =
     let two = both below closed (subst (λ b. cond b true (below && closed) ≡ true) (ne-eqb (c .q) 0 (omega arith)) ok) in
-    (ltb-true (c .node) (length ns) (two .0), closes-tight P (c .p) (c .q) u (c .steps) ends refl (two .1))
+    (ltb-true (c .node) (length ns) (two .0), two .1)
   where
     u : Node
     u = getD ns (c .node) start
-
-    ends : Option Reached
-    ends = follow P (c .steps) (record { at = u; kept = 0; ideal = 0 })
 
     below : Bool
     below = ltb (c .node) (length ns)
 
     closed : Bool
-    closed = closes (c .p) (c .q) u ends
+    closed = closes (c .p) (c .q) u (follow P (c .steps) (record { at = u; kept = 0; ideal = 0 }))
+
+-- so it is such a one
+pub cycle-tight : (P : Plan) (ns : List Node) (c : Certificate) → 0 < c .q → cycleOk P ns c ≡ true →
+    (c .node < length ns) × Tight P (c .p) (c .q) (getD ns (c .node) start)
+cycle-tight P ns c h ok =
+    let two = cycle-closes P ns c h ok in
+    (two .0, closes-tight P (c .p) (c .q) (getD ns (c .node) start) (c .steps) _ refl (two .1))
 
 -- ---- no larger fraction
 
