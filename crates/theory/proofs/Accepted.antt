@@ -1,7 +1,7 @@
 -- When the checker's answer is a share: what it then finds of the certificate, and of the bytes.
 -- Assumes nothing.
-use mathlib.Core.Path.{_≡_, refl, _∙_, ap}
-use mathlib.Core.Bool.{Bool, true, false, cond}
+use mathlib.Core.Path.{_≡_, refl, sym, _∙_, ap}
+use mathlib.Core.Bool.{Bool, true, false, cond, false≢true}
 use mathlib.Core.Logic.{_↔_}
 use mathlib.Core.Option.{Option, none, some}
 use mathlib.Core.List.{List}
@@ -38,11 +38,11 @@ module _ {p q N K : ℕ} where
   -- a test that must be true for a share
   past : (b : Bool) (x : CheckAnswer) (n : ℕ) → (cond b x (refused n) ≡ share p q N K) ↔ ((b ≡ true) × (x ≡ share p q N K))
   past true x n = (λ h. (refl, h), λ h. h .1)
-  past false x n = (λ h. absurd (refused-share h), λ h. absurd (let z : _≡_ {A = ℕ} 0 1 = cc in omega arith))
+  past false x n = (λ h. absurd (refused-share h), λ h. absurd (false≢true (h .0)))
 
   -- a test that must be false for a share
   past-not : (b : Bool) (x : CheckAnswer) (n : ℕ) → (cond b (refused n) x ≡ share p q N K) ↔ ((b ≡ false) × (x ≡ share p q N K))
-  past-not true x n = (λ h. absurd (refused-share h), λ h. absurd (let z : _≡_ {A = ℕ} 0 1 = cc in omega arith))
+  past-not true x n = (λ h. absurd (refused-share h), λ h. absurd (false≢true (sym (h .0))))
   past-not false x n = (λ h. (refl, h), λ h. h .1)
 
 -- the checker's answer is a share exactly where it finds these

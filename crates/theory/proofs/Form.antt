@@ -5,21 +5,21 @@ use mathlib.Core.Bool.{Bool, true, false, cond, _&&_, false≢true}
 use mathlib.Core.Logic.{⊎-elim}
 use mathlib.Core.Option.{Option, none, some, Option·none-ne-some, Option·some-injective}
 use mathlib.Core.List.{List, [], _∷_, _++_, append-assoc, List·Memᴰ, List·Memᴰ·head, List·Memᴰ·tail, List·Memᴰ·not-nil, List·Memᴰ·cases-cons}
-use Prim.Native.Nat.{ℕ, zero, suc, _+_, _*_, _^_, _<_, _≤_}
+use Prim.Native.Nat.{ℕ, zero, suc, _+_, _^_, _<_, _≤_}
 use native.Mathlib.Nat.{not-suc-le-zero, le-of-suc-le-suc}
 use native.Mathlib.Decide.{decLt}
 use native.Mathlib.Omega.{arith}
-use lib.Dec.{leb, ltb, eqb}
+use lib.Dec.{leb, eqb}
 use lib.IntN.{ℤ, pos, negsuc}
 use lib.ListN.{length, getD, take, drop, replicate, length-append, length-replicate}
 use lib.Seq.{length-take-le, take-at, drop-at, drop-drop}
 use lib.Signed.{mag}
-use borrow.Author.Tests.{ltb-true, leb-true, lt-ltb, le-leb, eqb-true, eqb-false, eq-eqb, ne-eqb}
+use borrow.Author.Tests.{leb-true, lt-ltb, le-leb, eqb-true, eqb-false, eq-eqb, ne-eqb}
 use Rattle.model.specs.Limits.{maxTasks, maxNodes, maxSteps, maxPotential}
 use Rattle.model.specs.Lists.{flatMap, all, sameNumbers}
 use Rattle.model.specs.Bytes.{number, bytes, signed, complement, part}
 use Rattle.model.specs.Plan.{Plan}
-use Rattle.model.specs.Graph.{Node, Edge, start, edges, nodes, tooLarge, sameNode}
+use Rattle.model.specs.Graph.{Node, Edge, start, edges, nodes, tooLarge}
 use Rattle.model.specs.Certificate.{Step, Certificate, cycleBytes, certificateBytes, Parsed, consParsed, readPotentials, readSteps, isEnd, withSteps, withPotentials, readCertificate}
 use Rattle.model.specs.Check.{withinLimit, potentialsOk, padded, isStep, findStep, Reached, follow, closes}
 use Rattle.model.proofs.Plan.{both}
@@ -27,7 +27,7 @@ use Rattle.words.proofs.Complement.{complement-lt, signed-complement}
 use Rattle.words.proofs.Numbers.{number-bytes, bytes-length}
 use Rattle.theory.proofs.Tests.{true-and, all-each, same-numbers}
 use Rattle.theory.proofs.Nodes.{known-nodes, nodes-fit}
-use Rattle.theory.proofs.Steps.{find-step, after, cycle-closes}
+use Rattle.theory.proofs.Steps.{find-step, after, closes-parts, cycle-closes}
 use Rattle.theory.proofs.Accepted.{Accepted}
 use Rattle.theory.proofs.Gains.{fraction-fits}
 
@@ -237,10 +237,8 @@ closes-steps : (P : Plan) (p q : ℕ) (u : Node) (ss : List Step) (o : Option Re
     (0 < length ss) × ((s : Step) → List·Memᴰ s ss → length (s .masks) ≡ maxTasks)
 closes-steps P p q u ss none f h = absurd (false≢true h)
 closes-steps P p q u ss (some r) f h =
-    let three = both (sameNode (r .at) u && ltb 0 (r .ideal)) (eqb (p * r .ideal) (q * r .kept)) h in
-    let two = both (sameNode (r .at) u) (ltb 0 (r .ideal)) (three .0) in
     let from : Reached = record { at = u; kept = 0; ideal = 0 } in
-    (follow-some P ss from r f (ltb-true 0 (r .ideal) (two .1)), follow-masks P ss from r f)
+    (follow-some P ss from r f (closes-parts p q u r h .1), follow-masks P ss from r f)
 
 -- a potential within the limit fits its bytes
 limit-fits : (z : ℤ) → withinLimit z ≡ true → mag z < 2 ^ 63

@@ -74,21 +74,28 @@ pub record Tight (P : Plan) (p q : ℕ) (u : Node) : Type 0 where
   pub some : 0 < ideal path
   pub exact : p * ideal path ≡ q * kept path
 
--- steps that close are such a cycle
+-- where steps that close lead, and their sums
+pub closes-parts : (p q : ℕ) (u : Node) (r : Reached) → closes p q u (some r) ≡ true →
+    (r .at ≡ u) × (0 < r .ideal) × (p * r .ideal ≡ q * r .kept)
+closes-parts p q u r h =
+    let three = both (sameNode (r .at) u && ltb 0 (r .ideal)) (eqb (p * r .ideal) (q * r .kept)) h in
+    let two = both (sameNode (r .at) u) (ltb 0 (r .ideal)) (three .0) in
+    (same-node (r .at) u .0 (two .0), ltb-true 0 (r .ideal) (two .1), eqb-true _ _ (three .1))
+
+-- they are such a cycle
 closes-tight : (P : Plan) (p q : ℕ) (u : Node) (ss : List Step) (o : Option Reached) →
     follow P ss (record { at = u; kept = 0; ideal = 0 }) ≡ o → closes p q u o ≡ true → Tight P p q u
 closes-tight P p q u ss none f h = absurd (false≢true h)
 closes-tight P p q u ss (some r) f h =
     let w = follow-walk P ss (record { at = u; kept = 0; ideal = 0 }) r f in
-    let three = both (sameNode (r .at) u && ltb 0 (r .ideal)) (eqb (p * r .ideal) (q * r .kept)) h in
-    let two = both (sameNode (r .at) u) (ltb 0 (r .ideal)) (three .0) in
+    let parts = closes-parts p q u r h in
     let keeps : r .kept ≡ kept (w .path) = omega (arith, w .keeps) in
     let gains : r .ideal ≡ ideal (w .path) = omega (arith, w .gains) in
     record {
       path = w .path;
-      walk = subst (λ v. Walk P u v (w .path)) (same-node (r .at) u .0 (two .0)) (w .walk);
-      some = omega (arith, ltb-true 0 (r .ideal) (two .1));
-      exact = ap (λ (n : ℕ). p * n) (sym gains) ∙ eqb-true _ _ (three .1) ∙ ap (λ (n : ℕ). q * n) keeps;
+      walk = subst (λ v. Walk P u v (w .path)) (parts .0) (w .walk);
+      some = omega (arith, parts .1);
+      exact = ap (λ (n : ℕ). p * n) (sym gains) ∙ parts .2 ∙ ap (λ (n : ℕ). q * n) keeps;
     }
 
 -- the cycle that the checker accepts starts at a node of the list, and its steps close
