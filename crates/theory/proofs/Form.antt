@@ -57,7 +57,7 @@ field-rest k n rest = drop-at (bytes k n) rest k (bytes-length k n)
 -- ---- the potentials
 
 -- `12` potential
-abbrev potentialBytes : ℤ → List ℕ
+abbrev pub potentialBytes : ℤ → List ℕ
 potentialBytes z = 0x12 ∷ bytes 8 (complement z)
 
 -- the potentials are read
@@ -84,7 +84,7 @@ potentials-read (z ∷ zs) rest h =
 -- ---- the steps
 
 -- `14` label and four masks
-abbrev stepBytes : Step → List ℕ
+abbrev pub stepBytes : Step → List ℕ
 stepBytes s = 0x14 ∷ s .label ∷ s .masks
 
 -- steps are read, up to where no `14` stands
@@ -184,17 +184,19 @@ cycle-read c f h =
         ap (λ l. readSteps maxSteps (drop 2 l)) grouped ∙ ap (readSteps maxSteps) (field-rest 2 (c .node) steps)
         ∙ steps-read maxSteps (c .steps) (0x15 ∷ []) (f .fewSteps) (f .masks) refl
 
+-- a certificate's bytes, each part with all that follows it
+pub bytes-grouped : (c : Certificate) →
+    certificateBytes c ≡ 0x11 ∷ (bytes 4 (c .p) ++ (bytes 4 (c .q) ++ (bytes 2 (length (c .potentials))
+    ++ (flatMap potentialBytes (c .potentials) ++ (cond (eqb (c .q) 0) [] (cycleBytes c) ++ (0x15 ∷ []))))))
+unfolding certificateBytes
+bytes-grouped c = simp append-assoc
+
 -- a certificate of this form is read from its bytes
 pub certificate-read-back : (c : Certificate) → Formed c → readCertificate (certificateBytes c) ≡ some c
-unfolding certificateBytes
 certificate-read-back c f =
-    ap readCertificate regrouped ∙ header-read (c .p) (c .q) (length (c .potentials)) _ (f .smallP) (f .smallQ) (f .some) (f .few)
+    ap readCertificate (bytes-grouped c) ∙ header-read (c .p) (c .q) (length (c .potentials)) _ (f .smallP) (f .smallQ) (f .some) (f .few)
     ∙ ap (withPotentials (c .p) (c .q)) (potentials-read (c .potentials) _ (f .potentials)) ∙ by (eqb (c .q) 0) refl
   where
-    regrouped : certificateBytes c ≡ 0x11 ∷ (bytes 4 (c .p) ++ (bytes 4 (c .q) ++ (bytes 2 (length (c .potentials))
-        ++ (flatMap potentialBytes (c .potentials) ++ (cond (eqb (c .q) 0) [] (cycleBytes c) ++ (0x15 ∷ []))))))
-    regrouped = simp append-assoc
-
     by : (b : Bool) → eqb (c .q) 0 ≡ b →
         withPotentials (c .p) (c .q) (some (record { value = c .potentials; rest = cond b [] (cycleBytes c) ++ (0x15 ∷ []) })) ≡ some c
     by true e = end-read c f (eqb-true (c .q) 0 e)

@@ -20,4 +20,5 @@ pub mod Written
 pub mod Short
 pub mod Gains
 pub mod Form
+pub mod Reread
 pub mod Solved
