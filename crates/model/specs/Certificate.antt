@@ -1,6 +1,6 @@
 -- A certificate, its bytes, and their reading.
 use Prim.Native.Nat.{ℕ, zero, suc, _+_}
-use mathlib.Core.Bool.{Bool, true, false, cond, _&&_}
+use mathlib.Core.Bool.{Bool, cond, _&&_}
 use mathlib.Core.List.{List, [], _∷_, _++_}
 use mathlib.Core.Option.{Option, none, some}
 use lib.Dec.{leb, ltb, eqb}
@@ -18,8 +18,7 @@ pub record Step : Type 0 where
 pub record Certificate : Type 0 where
   pub p : ℕ
   pub q : ℕ
-  pub count : ℕ  -- N
-  pub potentials : List ℤ  -- N of them, in node order
+  pub potentials : List ℤ  -- in node order; N is how many there are
   pub node : ℕ  -- where the cycle starts; 0 where q = 0
   pub steps : List Step  -- none where q = 0
 
@@ -32,7 +31,7 @@ cycleBytes c = (0x13 ∷ bytes 2 (c .node)) ++ flatMap (λ s. 0x14 ∷ s .label 
 -- "`11` p (4 bytes) q (4) N (2); N times `12` potential (8, two's complement) ..; `15` end. `13` and `14` are missing exactly when q = 0."
 unfoldable pub certificateBytes : Certificate → List ℕ
 certificateBytes c =
-    (0x11 ∷ bytes 4 (c .p)) ++ bytes 4 (c .q) ++ bytes 2 (c .count)
+    (0x11 ∷ bytes 4 (c .p)) ++ bytes 4 (c .q) ++ bytes 2 (length (c .potentials))
     ++ flatMap (λ z. 0x12 ∷ bytes 8 (complement z)) (c .potentials)
     ++ cond (eqb (c .q) 0) [] (cycleBytes c)
     ++ (0x15 ∷ [])
@@ -72,23 +71,23 @@ abbrev pub isEnd : List ℕ → Bool
 isEnd bs = eqb (length bs) 1 && eqb (getD bs 0 0) 0x15
 
 -- the potentials are read, and the steps of a cycle from the node v
-abbrev pub withSteps : ℕ → ℕ → ℕ → List ℤ → ℕ → Option (Parsed (List Step)) → Option Certificate
-withSteps p q n zs v none = none
-withSteps p q n zs v (some r) =
+abbrev pub withSteps : ℕ → ℕ → List ℤ → ℕ → Option (Parsed (List Step)) → Option Certificate
+withSteps p q zs v none = none
+withSteps p q zs v (some r) =
     cond (isEnd (r .rest) && ltb 0 (length (r .value)))
-    (some (record { p = p; q = q; count = n; potentials = zs; node = v; steps = r .value })) none
+    (some (record { p = p; q = q; potentials = zs; node = v; steps = r .value })) none
 
 -- the potentials are read; "`13` and `14` are missing exactly when q = 0"
-abbrev pub withPotentials : ℕ → ℕ → ℕ → Option (Parsed (List ℤ)) → Option Certificate
-withPotentials p q n none = none
-withPotentials p q n (some r) =
-    let bare : Option Certificate = cond (isEnd (r .rest)) (some (record { p = p; q = q; count = n; potentials = r .value; node = 0; steps = [] })) none in
-    let full : Option Certificate = cond (has (r .rest) 0x13 3) (withSteps p q n (r .value) (number (part (r .rest) 1 2)) (readSteps maxSteps (drop 3 (r .rest)))) none in
+abbrev pub withPotentials : ℕ → ℕ → Option (Parsed (List ℤ)) → Option Certificate
+withPotentials p q none = none
+withPotentials p q (some r) =
+    let bare : Option Certificate = cond (isEnd (r .rest)) (some (record { p = p; q = q; potentials = r .value; node = 0; steps = [] })) none in
+    let full : Option Certificate = cond (has (r .rest) 0x13 3) (withSteps p q (r .value) (number (part (r .rest) 1 2)) (readSteps maxSteps (drop 3 (r .rest)))) none in
     cond (eqb q 0) bare full
 
 -- "N is 1 to 1,024."
 unfoldable pub readCertificate : List ℕ → Option Certificate
 readCertificate bs =
     let n = number (part bs 9 2) in
-    let c = withPotentials (number (part bs 1 4)) (number (part bs 5 4)) n (readPotentials n (drop 11 bs)) in
+    let c = withPotentials (number (part bs 1 4)) (number (part bs 5 4)) (readPotentials n (drop 11 bs)) in
     cond (has bs 0x11 11 && leb 1 n && leb n maxNodes) c none

@@ -126,10 +126,10 @@ unfoldable pub verdict : Plan → Certificate → CheckAnswer
 verdict P c =
     let ns = nodes P in
     let zs = c .potentials in
-    let answer = share (c .p) (c .q) (c .count) (allowance zs) in
+    let answer = share (c .p) (c .q) (length zs) (allowance zs) in
     let cycle = cond (cycleOk P ns c) answer (refused badCycle) in
     let potentials = cond (potentialsOk P ns (c .p) (c .q) zs) cycle (refused badPotential) in
-    let count = cond (eqb (c .count) (length ns)) potentials (refused badCount) in
+    let count = cond (eqb (length zs) (length ns)) potentials (refused badCount) in
     cond (fractionOk (c .p) (c .q)) count (refused badFraction)
 
 abbrev pub checkRead : Plan → Option Certificate → CheckAnswer

@@ -1,8 +1,9 @@
 -- What the solver writes.
 use mathlib.Core.Path.{_≡_}
 use Prim.Native.Nat.{ℕ, _*_, _<_}
-use mathlib.Core.Bool.{Bool, cond, _&&_}
+use mathlib.Core.Bool.{cond, _&&_}
 use mathlib.Core.List.{List}
+use mathlib.Core.Option.{some}
 use lib.Dec.{leb}
 use lib.IntN.{ℤ, pos, _-ℤ_}
 use lib.ListN.{length, getD}
@@ -12,7 +13,7 @@ use Rattle.model.specs.Refusals.{tooManyNodes, shortMemory}
 use Rattle.model.specs.Plan.{Plan, PlanAnswer, faulty, sound, readPlan}
 use Rattle.model.specs.Graph.{Node, Edge, start, nodes, tooLarge}
 use Rattle.model.specs.Walk.{Walk, kept, ideal}
-use Rattle.model.specs.Certificate.{Certificate}
+use Rattle.model.specs.Certificate.{Certificate, certificateBytes, readCertificate}
 use Rattle.model.specs.Check.{verdict, share, allowance, potentialAt}
 
 -- "the .. sum of q × policy gain − p × clairvoyant gain" over a walk
@@ -24,10 +25,11 @@ pub record Smallest (P : Plan) (p q : ℕ) (v : Node) (z : ℤ) : Type 0 where
   pub reached : (es : List Edge) × Walk P start v es × (cost p q es ≡ z)
   pub least : (es : List Edge) → Walk P start v es → z ≤ℤ cost p q es
 
--- A certificate that the solver may write for the plan: the checker accepts it, and "the solver's potential at v is the smallest
--- sum". Its cycle is free, but that the checker accepts it.
+-- A certificate that the solver may write for the plan: its bytes are read as it, the checker accepts it, and "the solver's potential
+-- at v is the smallest sum". Its cycle is free, but that the checker accepts it.
 pub record Solved (P : Plan) (c : Certificate) : Type 0 where
-  pub accepted : verdict P c ≡ share (c .p) (c .q) (c .count) (allowance (c .potentials))
+  pub form : readCertificate (certificateBytes c) ≡ some c  -- "our solver writes a certificate"
+  pub accepted : verdict P c ≡ share (c .p) (c .q) (length (c .potentials)) (allowance (c .potentials))
   pub potentials : (i : ℕ) → i < length (nodes P) → Smallest P (c .p) (c .q) (getD (nodes P) i start) (potentialAt (c .potentials) i)
 
 -- what is due: a refusal, or a certificate that is `Solved` of this plan

@@ -1,6 +1,6 @@
 -- What an accepted certificate says of the plan: the fraction is kept by every admitted run and schedule, and no larger one is.
 -- Assumes nothing.
-use mathlib.Core.Path.{_≡_, _∙_, subst, subst₂, subst₃}
+use mathlib.Core.Path.{_≡_, subst, subst₂, subst₃}
 use mathlib.Core.Bool.{false}
 use mathlib.Core.List.{List}
 use Prim.Native.Nat.{ℕ, zero, suc, _+_, _*_, _<_, _≤_}
@@ -21,14 +21,14 @@ use Rattle.theory.proofs.Schedules.{true-to-schedules}
 use Rattle.theory.proofs.Nodes.{known-nodes}
 use Rattle.theory.proofs.Potentials.{walk-keeps}
 use Rattle.theory.proofs.Steps.{cycle-tight, cycle-exceeds}
-use Rattle.theory.proofs.Accepted.{Accepted, Sized, accepted-iff, read-sized, check-iff}
+use Rattle.theory.proofs.Accepted.{Accepted, accepted-iff, check-iff}
 
 -- a product below another is of a second factor above 0
 factor-pos : (n a q : ℕ) → n < a * q → 0 < q
 factor-pos n a zero h = absurd (omega (arith, mul-zero a))
 factor-pos n a (suc q) h = omega arith
 
-module _ (P : Plan) (true-to : TrueToSchedules P) (fits : tooLarge P ≡ false) (c : Certificate) (sized : Sized c)
+module _ (P : Plan) (true-to : TrueToSchedules P) (fits : tooLarge P ≡ false) (c : Certificate)
     {p q N K : ℕ} (a : Accepted P c p q N K) where
   -- the fraction is kept, but for the allowance
   keeps : (run : List ℕ) → T (admits P run) → (σ : Schedule P run) →
@@ -36,7 +36,7 @@ module _ (P : Plan) (true-to : TrueToSchedules P) (fits : tooLarge P ≡ false) 
   keeps run adm σ =
       let w = true-to .toWalk run adm σ in
       subst₂ (λ i k. c .p * i ≤ c .q * k + allowance (c .potentials)) (w .3 .clairvoyant) (w .3 .policy)
-      (walk-keeps P (c .p) (c .q) (c .potentials) fits (sized ∙ a .counted) (a .potentials) (w .2))
+      (walk-keeps P (c .p) (c .q) (c .potentials) fits (a .counted) (a .potentials) (w .2))
 
   -- and no larger one
   no-more : (x b H : ℕ) → c .p * b < x * c .q →
@@ -53,12 +53,12 @@ module _ (P : Plan) (true-to : TrueToSchedules P) (fits : tooLarge P ≡ false) 
   claim = subst₃ (λ p′ q′ k. KeptShare P p′ q′ k) (a .isP) (a .isQ) (a .isAllowance) (record { keeps = keeps; noMore = no-more })
 
 -- the claim of an accepted certificate, of any plan whose graph has at most the limit of nodes
-pub verdict-claim : (P : Plan) → PlanSound P → tooLarge P ≡ false → (c : Certificate) → Sized c →
+pub verdict-claim : (P : Plan) → PlanSound P → tooLarge P ≡ false → (c : Certificate) →
     {p q N K : ℕ} → verdict P c ≡ share p q N K → KeptShare P p q K
-verdict-claim P sd fits c sized h = claim P (true-to-schedules P sd) fits c sized (accepted-iff P c .0 h)
+verdict-claim P sd fits c h = claim P (true-to-schedules P sd) fits c (accepted-iff P c .0 h)
 
 -- the same of a plan that some bytes are read as
-pub sound-claim : (P : Plan) → IsSound P → tooLarge P ≡ false → (c : Certificate) → Sized c →
+pub sound-claim : (P : Plan) → IsSound P → tooLarge P ≡ false → (c : Certificate) →
     {p q N K : ℕ} → verdict P c ≡ share p q N K → KeptShare P p q K
 sound-claim P s = verdict-claim P (sound-plan P s)
 
@@ -69,8 +69,7 @@ module _ (plan certificate : List ℕ) (lent : ℕ) {p q N K : ℕ} where
       let s = check-iff plan certificate lent .0 h in
       let same : s .P ≡ P = cc (s .planRead, r) in
       subst (λ S. KeptShare S p q K) same
-      (claim (s .P) (true-to-schedules (s .P) (read-sound plan (s .P) (s .planRead))) (s .fits) (s .c)
-      (read-sized certificate (s .c) (s .certificateRead)) (s .accepted))
+      (claim (s .P) (true-to-schedules (s .P) (read-sound plan (s .P) (s .planRead))) (s .fits) (s .c) (s .accepted))
 
   -- there is such a plan
   pub check-plan : check plan certificate lent ≡ share p q N K → (P : Plan) × (readPlan plan ≡ sound P) × KeptShare P p q K

@@ -19,4 +19,6 @@ pub mod Examples
 pub mod Written
 pub mod Short
 pub mod Gains
+pub mod Form
+pub mod Reread
 pub mod Solved

@@ -31,15 +31,11 @@ use Rattle.theory.proofs.Walks.{admits-some, walk-admits, walk-kept, wa
 pub task-sound : (P : Plan) → PlanSound P → (i : ℕ) → i < length (P .tasks) → TaskSound (getD (P .tasks) i noTask)
 task-sound P sd i h = sd .task (getD (P .tasks) i noTask) (mem-getD (P .tasks) i noTask h)
 
--- past the list there is no task
-no-task : (ts : List Task) (i : ℕ) → length ts ≤ i → getD ts i noTask ≡ noTask
-no-task ts i h = List·getD-eq-default ts noTask h
-
 -- a mask that is picked belongs to a task
 picked-task : (ts : List Task) (b : Bool) (i m : ℕ) → Picked (getD ts i noTask) b m → i < length ts
 picked-task ts b i m p =
     by-cases (decLt i (length ts)) (λ h. h)
-    (λ h. absurd (omega (arith, p .pos, subst (λ t. m < 2 ^ t .window) (no-task ts i (omega arith)) (p .below))))
+    (λ h. absurd (omega (arith, p .pos, subst (λ t. m < 2 ^ t .window) (List·getD-eq-default ts noTask {n = i} (omega arith)) (p .below))))
 
 -- a label that releases a task is a label of the run
 released-in : (run : List ℕ) (t i : ℕ) → T (bit (getD run t 0) i) → t < length run

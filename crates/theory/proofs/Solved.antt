@@ -1,19 +1,20 @@
--- A certificate with the smallest costs for potentials is accepted, but for its fraction, its count and its cycle.
+-- A certificate with the smallest costs for potentials may be written, but for its fraction, its count and its cycle.
 -- Assumes nothing.
 use mathlib.Core.Path.{_≡_, refl, _∙_, ap, subst}
 use mathlib.Core.Bool.{true, false}
-use mathlib.Core.List.{List, _++_, List·Memᴰ}
-use Prim.Native.Nat.{ℕ, _<_}
+use mathlib.Core.List.{List, [], _++_, List·Memᴰ}
+use Prim.Native.Nat.{ℕ, _<_, _≤_}
 use native.Mathlib.Omega.{arith}
 use lib.IntN.{ℤ, pos, _+ℤ_}
 use lib.ListN.{length}
 use lib.Signed.{_≤ℤ_}
+use Rattle.model.specs.Limits.{maxSteps}
 use Rattle.model.specs.Lists.{all}
 use Rattle.model.specs.Plan.{Plan}
 use Rattle.model.specs.Graph.{Node, Edge, start, nodes, tooLarge}
 use Rattle.model.specs.Walk.{Walk}
 use Rattle.model.specs.Certificate.{Certificate}
-use Rattle.model.specs.Check.{withinLimit, fractionOk, edgesOkFrom, potentialsOk, cycleOk}
+use Rattle.model.specs.Check.{withinLimit, fractionOk, edgesOkFrom, potentialsOk, cycleOk, allowance}
 use Rattle.model.specs.Solve.{cost, Smallest, Solved}
 use Rattle.model.proofs.Lists.{place}
 use Rattle.words.proofs.Signed.{≤ℤ-antisymm}
@@ -24,7 +25,8 @@ use Rattle.theory.proofs.Cycles.{walk-append}
 use Rattle.theory.proofs.Nodes.{start-in-nodes, nodes-fit, nodes-closed}
 use Rattle.theory.proofs.Costs.{cost-append}
 use Rattle.theory.proofs.Potentials.{potentialOf}
-use Rattle.theory.proofs.Accepted.{Sized, accepted-iff}
+use Rattle.theory.proofs.Accepted.{Accepted, accepted-iff}
+use Rattle.theory.proofs.Form.{certificate-read-back, accepted-formed}
 use Rattle.theory.proofs.Distances.{AllSmallest, smallest-at, smallest-pass}
 use Rattle.theory.proofs.Short.{NoLoss, simple, simple-short}
 use Rattle.theory.proofs.Gains.{cost-within}
@@ -68,21 +70,24 @@ module _ (P : Plan) (fits : tooLarge P ≡ false) (p q : ℕ) (zs : List ℤ) (s
     unfolding potentialsOk
     smallest-ok = true-and (all withinLimit zs) (edgesOkFrom P (nodes P) p q zs 0 (nodes P)) smallest-within (smallest-pass P fits p q zs smallest)
 
--- such a certificate may be written for the plan
-pub solved-of : (P : Plan) → PlanSound P → tooLarge P ≡ false → (c : Certificate) → Sized c → c .count ≡ length (nodes P) →
-    fractionOk (c .p) (c .q) ≡ true → AllSmallest P (c .p) (c .q) (c .potentials) → cycleOk P (nodes P) c ≡ true → Solved P c
-solved-of P sd fits c sized counted ok smallest cycle = record {
-  accepted =
-      accepted-iff P c .1
-      (record {
-        isP = refl;
-        isQ = refl;
-        isCount = refl;
-        isAllowance = refl;
-        fraction = ok;
-        counted = counted;
-        potentials = smallest-ok P fits (c .p) (c .q) (c .potentials) smallest sd ok (sized ∙ counted);
-        cycle = cycle;
-      });
+-- such a certificate may be written for the plan, where its steps are no more than the limit and are missing for q = 0
+pub solved-of : (P : Plan) → PlanSound P → tooLarge P ≡ false → (c : Certificate) → length (c .potentials) ≡ length (nodes P) →
+    fractionOk (c .p) (c .q) ≡ true → AllSmallest P (c .p) (c .q) (c .potentials) → cycleOk P (nodes P) c ≡ true →
+    length (c .steps) ≤ maxSteps → (c .q ≡ 0 → (c .node ≡ 0) × (c .steps ≡ [])) → Solved P c
+solved-of P sd fits c counted ok smallest cycle few bare = record {
+  form = certificate-read-back c (accepted-formed P fits c found few bare);
+  accepted = accepted-iff P c .1 found;
   potentials = smallest;
 }
+  where
+    found : Accepted P c (c .p) (c .q) (length (c .potentials)) (allowance (c .potentials))
+    found = record {
+      isP = refl;
+      isQ = refl;
+      isCount = refl;
+      isAllowance = refl;
+      fraction = ok;
+      counted = counted;
+      potentials = smallest-ok P fits (c .p) (c .q) (c .potentials) smallest sd ok counted;
+      cycle = cycle;
+    }

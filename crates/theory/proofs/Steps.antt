@@ -74,42 +74,54 @@ pub record Tight (P : Plan) (p q : ℕ) (u : Node) : Type 0 where
   pub some : 0 < ideal path
   pub exact : p * ideal path ≡ q * kept path
 
--- steps that close are such a cycle
+-- where steps that close lead, and their sums
+pub closes-parts : (p q : ℕ) (u : Node) (r : Reached) → closes p q u (some r) ≡ true →
+    (r .at ≡ u) × (0 < r .ideal) × (p * r .ideal ≡ q * r .kept)
+closes-parts p q u r h =
+    let three = both (sameNode (r .at) u && ltb 0 (r .ideal)) (eqb (p * r .ideal) (q * r .kept)) h in
+    let two = both (sameNode (r .at) u) (ltb 0 (r .ideal)) (three .0) in
+    (same-node (r .at) u .0 (two .0), ltb-true 0 (r .ideal) (two .1), eqb-true _ _ (three .1))
+
+-- they are such a cycle
 closes-tight : (P : Plan) (p q : ℕ) (u : Node) (ss : List Step) (o : Option Reached) →
     follow P ss (record { at = u; kept = 0; ideal = 0 }) ≡ o → closes p q u o ≡ true → Tight P p q u
 closes-tight P p q u ss none f h = absurd (false≢true h)
 closes-tight P p q u ss (some r) f h =
     let w = follow-walk P ss (record { at = u; kept = 0; ideal = 0 }) r f in
-    let three = both (sameNode (r .at) u && ltb 0 (r .ideal)) (eqb (p * r .ideal) (q * r .kept)) h in
-    let two = both (sameNode (r .at) u) (ltb 0 (r .ideal)) (three .0) in
+    let parts = closes-parts p q u r h in
     let keeps : r .kept ≡ kept (w .path) = omega (arith, w .keeps) in
     let gains : r .ideal ≡ ideal (w .path) = omega (arith, w .gains) in
     record {
       path = w .path;
-      walk = subst (λ v. Walk P u v (w .path)) (same-node (r .at) u .0 (two .0)) (w .walk);
-      some = omega (arith, ltb-true 0 (r .ideal) (two .1));
-      exact = ap (λ (n : ℕ). p * n) (sym gains) ∙ eqb-true _ _ (three .1) ∙ ap (λ (n : ℕ). q * n) keeps;
+      walk = subst (λ v. Walk P u v (w .path)) (parts .0) (w .walk);
+      some = omega (arith, parts .1);
+      exact = ap (λ (n : ℕ). p * n) (sym gains) ∙ parts .2 ∙ ap (λ (n : ℕ). q * n) keeps;
     }
 
--- the cycle that the checker accepts is such a one, at a node of the list
-pub cycle-tight : (P : Plan) (ns : List Node) (c : Certificate) → 0 < c .q → cycleOk P ns c ≡ true →
-    (c .node < length ns) × Tight P (c .p) (c .q) (getD ns (c .node) start)
+-- the cycle that the checker accepts starts at a node of the list, and its steps close
+pub cycle-closes : (P : Plan) (ns : List Node) (c : Certificate) → 0 < c .q → cycleOk P ns c ≡ true →
+    (c .node < length ns)
+    × (closes (c .p) (c .q) (getD ns (c .node) start) (follow P (c .steps) (record { at = getD ns (c .node) start; kept = 0; ideal = 0 })) ≡ true)
 unfolding cycleOk
-cycle-tight P ns c h ok =
+cycle-closes P ns c h ok =
     let two = both below closed (subst (λ b. cond b true (below && closed) ≡ true) (ne-eqb (c .q) 0 (omega arith)) ok) in
-    (ltb-true (c .node) (length ns) (two .0), closes-tight P (c .p) (c .q) u (c .steps) ends refl (two .1))
+    (ltb-true (c .node) (length ns) (two .0), two .1)
   where
     u : Node
     u = getD ns (c .node) start
-
-    ends : Option Reached
-    ends = follow P (c .steps) (record { at = u; kept = 0; ideal = 0 })
 
     below : Bool
     below = ltb (c .node) (length ns)
 
     closed : Bool
-    closed = closes (c .p) (c .q) u ends
+    closed = closes (c .p) (c .q) u (follow P (c .steps) (record { at = u; kept = 0; ideal = 0 }))
+
+-- so it is such a one
+pub cycle-tight : (P : Plan) (ns : List Node) (c : Certificate) → 0 < c .q → cycleOk P ns c ≡ true →
+    (c .node < length ns) × Tight P (c .p) (c .q) (getD ns (c .node) start)
+cycle-tight P ns c h ok =
+    let two = cycle-closes P ns c h ok in
+    (two .0, closes-tight P (c .p) (c .q) (getD ns (c .node) start) (c .steps) _ refl (two .1))
 
 -- ---- no larger fraction
 

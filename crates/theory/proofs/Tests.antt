@@ -1,11 +1,13 @@
 -- Tests as facts and back.
 -- Assumes nothing.
 use mathlib.Core.Path.{_≡_, refl, sym, _∙_, ap, ap₂, subst}
-use mathlib.Core.Bool.{Bool, true, false, _&&_, _||_}
+use mathlib.Core.Bool.{Bool, true, false, _&&_, _||_, false≢true}
 use mathlib.Core.Logic.{_↔_, _⊎_, inl, inr, ⊎-elim}
 use mathlib.Core.List.{List, [], _∷_, List·Memᴰ, List·Memᴰ·head, List·Memᴰ·tail, List·Memᴰ·not-nil, List·Memᴰ·cases-cons}
-use lib.Dec.{T}
-use Rattle.model.specs.Lists.{all}
+use Prim.Native.Nat.{ℕ}
+use lib.Dec.{T, eqb}
+use borrow.Author.Tests.{eqb-true, eq-eqb}
+use Rattle.model.specs.Lists.{all, sameNumbers}
 use Rattle.model.proofs.Plan.{both}
 
 -- a test that holds is true
@@ -74,4 +76,15 @@ all-each f (x ∷ l) =
           let two = both (f x) (all f l) h in
           ⊎-elim (λ p. ap f p ∙ two .0) (later .0 (two .1) a) (List·Memᴰ·cases-cons m),
       λ h. true-and (f x) (all f l) (h x (List·Memᴰ·head refl)) (later .1 (λ a m. h a (List·Memᴰ·tail m))),
+    )
+
+-- the test of two lists of numbers decides whether they are the same
+pub same-numbers : (as′ bs : List ℕ) → (sameNumbers as′ bs ≡ true) ↔ (as′ ≡ bs)
+same-numbers [] [] = (λ h. refl, λ e. refl)
+same-numbers [] (b ∷ bs) = (λ h. absurd (false≢true h), λ e. cc)
+same-numbers (a ∷ as′) [] = (λ h. absurd (false≢true h), λ e. cc)
+same-numbers (a ∷ as′) (b ∷ bs) =
+    let later = same-numbers as′ bs in (
+      λ h. let two = both (eqb a b) (sameNumbers as′ bs) h in ap₂ (λ c cs. c ∷ cs) (eqb-true a b (two .0)) (later .0 (two .1)),
+      λ e. true-and (eqb a b) (sameNumbers as′ bs) (eq-eqb a b (cc)) (later .1 (cc)),
     )

@@ -2,7 +2,7 @@
 -- Assumes nothing.
 use mathlib.Core.Path.{_≡_, refl, sym, _∙_, ap, ap₂, subst}
 use mathlib.Core.Bool.{Bool, true, false, cond, _&&_, false≢true}
-use mathlib.Core.Logic.{_↔_, ⊎-elim}
+use mathlib.Core.Logic.{⊎-elim}
 use mathlib.Core.Option.{Option, none, some}
 use mathlib.Core.List.{List, [], _∷_, _++_, map, List·Memᴰ, List·Memᴰ·head, List·Memᴰ·tail, List·Memᴰ·not-nil, List·Memᴰ·cases-cons}
 use Prim.Native.Nat.{ℕ, _+_, _*_, _<_, _≤_}
@@ -20,23 +20,12 @@ use Rattle.model.specs.Walk.{Walk, here, go, kept, ideal}
 use Rattle.model.specs.Certificate.{Certificate, Step}
 use Rattle.model.specs.Check.{padded, isStep, findStep, Reached, follow, closes, cycleOk}
 use Rattle.model.proofs.Plan.{both}
-use Rattle.theory.proofs.Tests.{true-and}
+use Rattle.theory.proofs.Tests.{true-and, same-numbers}
 use Rattle.theory.proofs.Edges.{edge-determined}
 use Rattle.theory.proofs.Sound.{PlanSound}
 use Rattle.theory.proofs.Walks.{step-of}
 use Rattle.theory.proofs.Nodes.{same-node}
 use Rattle.theory.proofs.Steps.{Tight, after}
-
--- the test of two lists of numbers decides whether they are the same
-pub same-numbers : (as′ bs : List ℕ) → (sameNumbers as′ bs ≡ true) ↔ (as′ ≡ bs)
-same-numbers [] [] = (λ h. refl, λ e. refl)
-same-numbers [] (b ∷ bs) = (λ h. absurd (false≢true h), λ e. cc)
-same-numbers (a ∷ as′) [] = (λ h. absurd (false≢true h), λ e. cc)
-same-numbers (a ∷ as′) (b ∷ bs) =
-    let later = same-numbers as′ bs in (
-      λ h. let two = both (eqb a b) (sameNumbers as′ bs) h in ap₂ (λ c cs. c ∷ cs) (eqb-true a b (two .0)) (later .0 (two .1)),
-      λ e. true-and (eqb a b) (sameNumbers as′ bs) (eq-eqb a b (cc)) (later .1 (cc)),
-    )
 
 -- padded masks begin with the masks
 take-padded : (ms : List ℕ) → length ms ≤ maxTasks → take (length ms) (padded ms) ≡ ms

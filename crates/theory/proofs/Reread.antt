@@ -1,0 +1,217 @@
+-- Bytes that are read as a certificate are the bytes written of it.
+-- Assumes nothing.
+use mathlib.Core.Path.{_≡_, refl, sym, _∙_, ap, ap₂, subst}
+use mathlib.Core.Bool.{Bool, true, false, cond, _&&_, false≢true}
+use mathlib.Core.Option.{Option, none, some, Option·none-ne-some, Option·some-injective}
+use mathlib.Core.List.{List, [], _∷_, _++_, append-assoc}
+use Prim.Native.Nat.{ℕ, zero, suc, _+_, _^_, _<_, _≤_}
+use native.Mathlib.Omega.{arith}
+use lib.Dec.{leb, ltb, eqb}
+use lib.IntN.{ℤ}
+use lib.ListN.{length, getD, take, drop, take-append-drop}
+use lib.Seq.{drop-cons, drop-drop, getD-drop}
+use borrow.Author.Tests.{leb-true, eqb-true}
+use Rattle.model.specs.Limits.{maxTasks, maxNodes, maxSteps}
+use Rattle.model.specs.Lists.{flatMap}
+use Rattle.model.specs.Bytes.{number, bytes, signed, part}
+use Rattle.model.specs.Certificate.{Step, Certificate, cycleBytes, certificateBytes, Parsed, consParsed, has, readPotentials, readSteps, isEnd, withSteps, withPotentials, readCertificate}
+use Rattle.model.proofs.Plan.{both}
+use Rattle.words.proofs.Complement.{complement-signed}
+use Rattle.words.proofs.Numbers.{AreBytes, number-lt, bytes-number}
+use Rattle.words.proofs.Memory.{part-length}
+use Rattle.words.proofs.Words.{part-bytes}
+use Rattle.theory.proofs.Form.{potentialBytes, stepBytes, bytes-grouped}
+
+-- ---- parts of a reading
+
+module _ {A : Type 0} where
+  -- a test that must be true for a value
+  cond-some : (b : Bool) (o : Option A) {c : A} → cond b o none ≡ some c → (b ≡ true) × (o ≡ some c)
+  cond-some true o h = (refl, h)
+  cond-some false o {c} h = absurd (Option·none-ne-some c h)
+
+  -- one element more, and what is read after it
+  cons-some : (a : A) (o : Option (Parsed (List A))) (r : Parsed (List A)) → consParsed a o ≡ some r →
+      (t : Parsed (List A)) × (o ≡ some t) × (record { value = a ∷ t .value; rest = t .rest } ≡ r)
+  cons-some a none r h = absurd (Option·none-ne-some r h)
+  cons-some a (some t) r h = (t, refl, Option·some-injective _ _ h)
+
+-- the bytes after some bytes
+drop-bytes : (k : ℕ) (l : List ℕ) → AreBytes l → AreBytes (drop k l)
+drop-bytes k l h i = rw getD-drop (h (k + i))
+
+-- a number is written as the bytes that it was read from
+field-written : (bs : List ℕ) (at k : ℕ) → AreBytes bs → at + k ≤ length bs → bytes k (number (part bs at k)) ++ drop (at + k) bs ≡ drop at bs
+field-written bs at k h fits =
+    ap₂ (λ (m : ℕ) l. bytes m (number (part bs at k)) ++ l) (sym (part-length bs at k fits)) (sym (drop-drop k at bs))
+    ∙ ap (λ t. t ++ drop k (drop at bs)) (bytes-number (part bs at k) (part-bytes bs at k h)) ∙ take-append-drop k (drop at bs)
+
+-- a command stands before the rest
+command-cons : (bs : List ℕ) (c n : ℕ) → has bs c (suc n) ≡ true → (c ∷ drop 1 bs ≡ bs) × (suc n ≤ length bs)
+command-cons bs c n h =
+    let two = both (eqb (getD bs 0 0) c) (leb (suc n) (length bs)) h in
+    let long : suc n ≤ length bs = leb-true (suc n) (length bs) (two .1) in
+    (ap (λ (x : ℕ). x ∷ drop 1 bs) (sym (eqb-true (getD bs 0 0) c (two .0))) ∙ sym (drop-cons bs 0 0 (omega arith)), long)
+
+-- ---- the potentials
+
+-- `12` potential is written as it was read
+potential-written : (bs : List ℕ) → AreBytes bs → has bs 0x12 9 ≡ true → potentialBytes (signed (number (part bs 1 8))) ++ drop 9 bs ≡ bs
+potential-written bs h t =
+    let at = command-cons bs 0x12 8 t in
+    let small : number (part bs 1 8) < 2 ^ 64 =
+    subst (λ (k : ℕ). number (part bs 1 8) < 256 ^ k) (part-length bs 1 8 (at .1)) (number-lt (part bs 1 8) (part-bytes bs 1 8 h)) in
+    ap (λ (n : ℕ). 0x12 ∷ (bytes 8 n ++ drop 9 bs)) (complement-signed (number (part bs 1 8)) small)
+    ∙ ap (λ l. 0x12 ∷ l) (field-written bs 1 8 h (at .1)) ∙ at .0
+
+-- so many potentials, written as they were read
+potentials-written : (n : ℕ) (bs : List ℕ) (r : Parsed (List ℤ)) → AreBytes bs → readPotentials n bs ≡ some r →
+    (flatMap potentialBytes (r .value) ++ r .rest ≡ bs) × (length (r .value) ≡ n) × AreBytes (r .rest)
+unfolding readPotentials
+potentials-written zero bs r h e =
+    subst (λ s. (flatMap potentialBytes (s .value) ++ s .rest ≡ bs) × (length (s .value) ≡ 0) × AreBytes (s .rest)) (Option·some-injective _ _ e) (refl, refl, h)
+potentials-written (suc n) bs r h e =
+    let two = cond-some (has bs 0x12 9) (consParsed z (readPotentials n (drop 9 bs))) e in
+    let t = cons-some z (readPotentials n (drop 9 bs)) r (two .1) in
+    let later = potentials-written n (drop 9 bs) (t .0) (drop-bytes 9 bs h) (t .1) in
+    subst (λ s. (flatMap potentialBytes (s .value) ++ s .rest ≡ bs) × (length (s .value) ≡ suc n) × AreBytes (s .rest)) (t .2) (
+      append-assoc (potentialBytes z) (flatMap potentialBytes (t .0 .value)) (t .0 .rest)
+          ∙ ap (λ l. potentialBytes z ++ l) (later .0) ∙ potential-written bs h (two .0),
+      ap suc (later .1),
+      later .2,
+    )
+  where
+    z : ℤ
+    z = signed (number (part bs 1 8))
+
+-- ---- the steps
+
+-- `14` label and four masks are written as they were read
+step-written : (bs : List ℕ) → eqb (getD bs 0 0) 0x14 ≡ true → 2 + maxTasks ≤ length bs →
+    stepBytes (record { label = getD bs 1 0; masks = part bs 2 maxTasks }) ++ drop (2 + maxTasks) bs ≡ bs
+step-written bs h long =
+    ap (λ l. 0x14 ∷ getD bs 1 0 ∷ (take 4 (drop 2 bs) ++ l)) (sym (drop-drop 4 2 bs))
+    ∙ ap (λ l. 0x14 ∷ getD bs 1 0 ∷ l) (take-append-drop 4 (drop 2 bs))
+    ∙ ap₂ (λ (x : ℕ) l. x ∷ l) (sym (eqb-true (getD bs 0 0) 0x14 h)) (sym (drop-cons bs 1 0 (omega arith)))
+    ∙ sym (drop-cons bs 0 0 (omega arith))
+
+-- steps are written as they were read
+steps-written : (n : ℕ) (bs : List ℕ) (r : Parsed (List Step)) → readSteps n bs ≡ some r → flatMap stepBytes (r .value) ++ r .rest ≡ bs
+unfolding readSteps
+steps-written zero bs r e = ap (λ s. flatMap stepBytes (s .value) ++ s .rest) (sym (Option·some-injective _ _ e))
+steps-written (suc n) bs r e = by (eqb (getD bs 0 0) 0x14) refl e (steps-written n (drop (2 + maxTasks) bs))
+  where
+    s : Step
+    s = record { label = getD bs 1 0; masks = part bs 2 maxTasks }
+
+    more : Option (Parsed (List Step))
+    more = readSteps n (drop (2 + maxTasks) bs)
+
+    by : (b : Bool) → eqb (getD bs 0 0) 0x14 ≡ b →
+        cond b (cond (leb (2 + maxTasks) (length bs)) (consParsed s more) none) (some (record { value = []; rest = bs })) ≡ some r →
+        ((t : Parsed (List Step)) → more ≡ some t → flatMap stepBytes (t .value) ++ t .rest ≡ drop (2 + maxTasks) bs) →
+        flatMap stepBytes (r .value) ++ r .rest ≡ bs
+    by true h k later =
+        let two = cond-some (leb (2 + maxTasks) (length bs)) (consParsed s more) k in
+        let t = cons-some s more r (two .1) in
+        ap (λ u. flatMap stepBytes (u .value) ++ u .rest) (sym (t .2))
+        ∙ append-assoc (stepBytes s) (flatMap stepBytes (t .0 .value)) (t .0 .rest)
+        ∙ ap (λ l. stepBytes s ++ l) (later (t .0) (t .1)) ∙ step-written bs h (leb-true (2 + maxTasks) (length bs) (two .0))
+    by false h k later = ap (λ u. flatMap stepBytes (u .value) ++ u .rest) (sym (Option·some-injective _ _ k))
+
+-- ---- the certificate
+
+-- `15` end stands alone
+end-written : (bs : List ℕ) → isEnd bs ≡ true → 0x15 ∷ [] ≡ bs
+end-written [] h = absurd (false≢true h)
+end-written (x ∷ []) h = ap (λ (y : ℕ). y ∷ []) (sym (eqb-true x 0x15 h))
+end-written (x ∷ y ∷ bs) h =
+    absurd (omega (arith, eqb-true (length (x ∷ y ∷ bs)) 1 (both (eqb (length (x ∷ y ∷ bs)) 1) (eqb x 0x15) h .0)))
+
+-- a certificate with this fraction and these potentials, whose further bytes are these
+record Ends (p q : ℕ) (zs : List ℤ) (bs : List ℕ) (c : Certificate) : Type 0 where
+  isP : c .p ≡ p
+  isQ : c .q ≡ q
+  isPotentials : c .potentials ≡ zs
+  ends : cond (eqb (c .q) 0) [] (cycleBytes c) ++ (0x15 ∷ []) ≡ bs
+
+module _ (p q : ℕ) (zs : List ℤ) (bs : List ℕ) (h : AreBytes bs) where
+  -- with a cycle
+  cycle-ends : (c : Certificate) → eqb q 0 ≡ false → has bs 0x13 3 ≡ true → (o : Option (Parsed (List Step))) → readSteps maxSteps (drop 3 bs) ≡ o →
+      withSteps p q zs (number (part bs 1 2)) o ≡ some c → Ends p q zs bs c
+  cycle-ends c e t none k f = absurd (Option·none-ne-some c f)
+  cycle-ends c e t (some r) k f =
+      let two = cond-some (isEnd (r .rest) && ltb 0 (length (r .value))) _ f in
+      let at = command-cons bs 0x13 2 t in
+      let ended = end-written (r .rest) (both (isEnd (r .rest)) (ltb 0 (length (r .value))) (two .0) .0) in
+      subst (Ends p q zs bs) (Option·some-injective _ _ (two .1))
+      (record {
+        isP = refl;
+        isQ = refl;
+        isPotentials = refl;
+        ends =
+            ap (λ b. cond b [] (cycleBytes (record { p = p; q = q; potentials = zs; node = number (part bs 1 2); steps = r .value })) ++ (0x15 ∷ [])) e
+            ∙ append-assoc (0x13 ∷ bytes 2 (number (part bs 1 2))) (flatMap stepBytes (r .value)) (0x15 ∷ [])
+            ∙ ap (λ l. 0x13 ∷ (bytes 2 (number (part bs 1 2)) ++ (flatMap stepBytes (r .value) ++ l))) ended
+            ∙ ap (λ l. 0x13 ∷ (bytes 2 (number (part bs 1 2)) ++ l)) (steps-written maxSteps (drop 3 bs) r k)
+            ∙ ap (λ l. 0x13 ∷ l) (field-written bs 1 2 h (at .1)) ∙ at .0;
+      })
+
+  -- with or without one
+  rest-ends : (c : Certificate) → withPotentials p q (some (record { value = zs; rest = bs })) ≡ some c → Ends p q zs bs c
+  rest-ends c f = by (eqb q 0) refl f
+    where
+      bare : Certificate
+      bare = record { p = p; q = q; potentials = zs; node = 0; steps = [] }
+
+      full : Option Certificate
+      full = withSteps p q zs (number (part bs 1 2)) (readSteps maxSteps (drop 3 bs))
+
+      by : (b : Bool) → eqb q 0 ≡ b → cond b (cond (isEnd bs) (some bare) none) (cond (has bs 0x13 3) full none) ≡ some c → Ends p q zs bs c
+      by true e k =
+          let two = cond-some (isEnd bs) (some bare) k in
+          subst (Ends p q zs bs) (Option·some-injective _ _ (two .1))
+          (record {
+            isP = refl;
+            isQ = refl;
+            isPotentials = refl;
+            ends = ap (λ b. cond b [] (cycleBytes bare) ++ (0x15 ∷ [])) e ∙ end-written bs (two .0);
+          })
+      by false e k = let two = cond-some (has bs 0x13 3) full k in cycle-ends c e (two .0) (readSteps maxSteps (drop 3 bs)) refl (two .1)
+
+-- `11` p q N are written as they were read
+header-written : (bs : List ℕ) → AreBytes bs → has bs 0x11 11 ≡ true →
+    0x11 ∷ (bytes 4 (number (part bs 1 4)) ++ (bytes 4 (number (part bs 5 4)) ++ (bytes 2 (number (part bs 9 2)) ++ drop 11 bs))) ≡ bs
+header-written bs h t =
+    let at = command-cons bs 0x11 10 t in
+    let p = bytes 4 (number (part bs 1 4)) in
+    let q = bytes 4 (number (part bs 5 4)) in
+    ap (λ l. 0x11 ∷ (p ++ (q ++ l))) (field-written bs 9 2 h (at .1)) ∙ ap (λ l. 0x11 ∷ (p ++ l)) (field-written bs 5 4 h (omega (arith, at .1)))
+    ∙ ap (λ l. 0x11 ∷ l) (field-written bs 1 4 h (omega (arith, at .1))) ∙ at .0
+
+-- bytes that are read as a certificate are written of it again
+pub bytes-read-back : (bs : List ℕ) (c : Certificate) → AreBytes bs → readCertificate bs ≡ some c → certificateBytes c ≡ bs
+unfolding readCertificate
+bytes-read-back bs c h e =
+    let three = cond-some (has bs 0x11 11 && leb 1 n && leb n maxNodes) (withPotentials p q (readPotentials n (drop 11 bs))) e in
+    let two = both (has bs 0x11 11 && leb 1 n) (leb n maxNodes) (three .0) in
+    by (both (has bs 0x11 11) (leb 1 n) (two .0) .0) (readPotentials n (drop 11 bs)) refl (three .1)
+  where
+    p : ℕ
+    p = number (part bs 1 4)
+
+    q : ℕ
+    q = number (part bs 5 4)
+
+    n : ℕ
+    n = number (part bs 9 2)
+
+    by : has bs 0x11 11 ≡ true → (o : Option (Parsed (List ℤ))) → readPotentials n (drop 11 bs) ≡ o → withPotentials p q o ≡ some c →
+        certificateBytes c ≡ bs
+    by t none k f = absurd (Option·none-ne-some c f)
+    by t (some r) k f =
+        let w = potentials-written n (drop 11 bs) r (drop-bytes 11 bs h) k in
+        let x = rest-ends p q (r .value) (r .rest) (w .2) c f in
+        bytes-grouped c
+        ∙ (λ i. 0x11 ∷ (bytes 4 (x .isP i) ++ (bytes 4 (x .isQ i) ++ (bytes 2 (length (x .isPotentials i)) ++ (flatMap potentialBytes (x .isPotentials i) ++ x .ends i)))))
+        ∙ ap₂ (λ (m : ℕ) l. 0x11 ∷ (bytes 4 p ++ (bytes 4 q ++ (bytes 2 m ++ l)))) (w .1) (w .0) ∙ header-written bs h t
