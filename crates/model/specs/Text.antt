@@ -21,6 +21,10 @@ decimal n = digitsIn n n
 abbrev pub space : List ℕ
 space = 32 ∷ []
 
+-- a number and the space after it
+abbrev pub field : ℕ → List ℕ
+field n = decimal n ++ space
+
 abbrev pub lineFeed : List ℕ
 lineFeed = 10 ∷ []
 
@@ -37,19 +41,23 @@ thousandthsText (some m) = decimal m
 unfoldable pub checkText : CheckAnswer → List ℕ
 checkText (refused n) = refusedLine n
 checkText (share p q n k) =
-    decimal p ++ space ++ decimal q ++ space ++ decimal n ++ space ++ decimal k ++ space ++ thousandthsText (thousandths p q) ++ lineFeed
+    field p ++ field q ++ field n ++ field k ++ thousandthsText (thousandths p q) ++ lineFeed
 
 -- "The first line of the trace is `slot label run gain`"
 abbrev pub traceHeader : List ℕ
 traceHeader =
     115 ∷ 108 ∷ 111 ∷ 116 ∷ 32 ∷ 108 ∷ 97 ∷ 98 ∷ 101 ∷ 108 ∷ 32 ∷ 114 ∷ 117 ∷ 110 ∷ 32 ∷ 103 ∷ 97 ∷ 105 ∷ 110 ∷ 10 ∷ []
 
--- "then a line per label: its slot, the label, the task that ran (0: none), the slot's gain"; from the slot t on
+-- "then a line per label: its slot, the label, the task that ran (0: none), the slot's gain"
+unfoldable pub traceLine : ℕ → ℕ → ℕ → ℕ → List ℕ
+traceLine slot label ran gain =
+    field slot ++ field label ++ field ran ++ decimal gain ++ lineFeed
+
+-- the lines from a slot on
 abbrev pub traceLines : ℕ → List ℕ → List Done → List ℕ
 traceLines t [] ds = []
 traceLines t (l ∷ ls) [] = []
-traceLines t (l ∷ ls) (d ∷ ds) =
-    decimal t ++ space ++ decimal l ++ space ++ decimal (d .ran) ++ space ++ decimal (d .gain) ++ lineFeed ++ traceLines (suc t) ls ds
+traceLines t (l ∷ ls) (d ∷ ds) = traceLine t l (d .ran) (d .gain) ++ traceLines (suc t) ls ds
 
 unfoldable pub traceText : List ℕ → TraceAnswer → List ℕ
 traceText labels (TraceAnswer.refused n) = refusedLine n

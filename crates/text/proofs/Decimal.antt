@@ -10,7 +10,7 @@ use borrow.Author.Tests.{lt-ltb, le-ltb, ltb-true, ltb-false}
 use lib.Dec.{ltb}
 use lib.ListN.{length, length-append}
 use Rattle.io.specs.Digits.{glyph, digits, Fewest}
-use Rattle.model.specs.Text.{digitsIn, decimal, refusedLine, lineFeed}
+use Rattle.model.specs.Text.{digitsIn, decimal, space, field, refusedLine, traceLine, lineFeed}
 
 -- a digit's code
 digit : (d : ℕ) → d < 10 → glyph d ≡ 48 + d
@@ -77,4 +77,20 @@ refused-length n =
       arith,
       length-append ((114 ∷ 101 ∷ 102 ∷ 117 ∷ 115 ∷ 101 ∷ 100 ∷ 32 ∷ []) ++ decimal n) lineFeed,
       length-append (114 ∷ 101 ∷ 102 ∷ 117 ∷ 115 ∷ 101 ∷ 100 ∷ 32 ∷ []) (decimal n),
+    )
+
+pub field-length : (n : ℕ) → length (field n) ≡ length (decimal n) + 1
+field-length n = length-append (decimal n) space
+
+-- the line of a slot has three fields, a number and a line feed
+pub trace-line-length : (t l r g : ℕ) →
+    length (traceLine t l r g) ≡ length (field t) + length (field l) + length (field r) + length (decimal g) + 1
+unfolding traceLine
+trace-line-length t l r g =
+    omega (
+      arith,
+      length-append (field t ++ field l ++ field r ++ decimal g) lineFeed,
+      length-append (field t ++ field l ++ field r) (decimal g),
+      length-append (field t ++ field l) (field r),
+      length-append (field t) (field l),
     )

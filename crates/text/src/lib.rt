@@ -3,7 +3,7 @@ ghost use mathlib.Core.Path.{_≡_};
 ghost use Prim.Native.Nat.{_+_, _≤_};
 ghost use lib.ListN.{length};
 ghost use Rattle.model.specs.Bytes.{overwrite};
-ghost use Rattle.model.specs.Text.{decimal, refusedLine};
+ghost use Rattle.model.specs.Text.{decimal, field, refusedLine, traceLine};
 ghost use Rattle.text.specs.Put.{Put};
 
 // Writes some bytes at a place, and answers the place after them.
@@ -35,4 +35,32 @@ pub fn put_refusal(out: &mut [u8], n: u64) -> usize
     let word = put_bytes(out, 0, b"refused ");
     let number = put_number(out, word, n);
     put_bytes(out, number, b"\n")
+}
+
+// Writes n and a space.
+fn put_field(out: &mut [u8], at: usize, n: u64) -> usize
+    requires { ⌜ at + length (field n) ≤ length (now out) ⌝ }
+    ensures { λ r. ⌜ Put (now (out .entry)) (now (out .exit)) at (field n) r ⌝ }
+{
+    let number = put_number(out, at, n);
+    put_bytes(out, number, b" ")
+}
+
+// Writes the line of a slot: its number, the label, the task that ran and the gain.
+pub fn put_trace_line(
+    out: &mut [u8],
+    at: usize,
+    slot: u64,
+    label: u64,
+    ran: u64,
+    gain: u64,
+) -> usize
+    requires { ⌜ at + length (traceLine slot label ran gain) ≤ length (now out) ⌝ }
+    ensures { λ r. ⌜ Put (now (out .entry)) (now (out .exit)) at (traceLine slot label ran gain) r ⌝ }
+{
+    let a = put_field(out, at, slot);
+    let b = put_field(out, a, label);
+    let c = put_field(out, b, ran);
+    let d = put_number(out, c, gain);
+    put_bytes(out, d, b"\n")
 }
