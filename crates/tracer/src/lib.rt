@@ -14,7 +14,7 @@ ghost use Rattle.model.specs.Schedule.{admits};
 ghost use Rattle.model.specs.Trace as model-trace;
 ghost use Rattle.plan.specs.View.{arcsIn, planOf, Sized};
 ghost use Rattle.policy.specs.View.{tasksIn, Ruled};
-ghost use Rattle.tracer.specs.Promise.{StatesFit, Told, Traces};
+ghost use Rattle.tracer.specs.Promise.{StatesFit, refusalNumber, Told, Traces};
 
 // The most that a trace takes, and the most labels.
 pub const TRACE_ROOM: usize = 12288;
@@ -28,6 +28,20 @@ pub enum Refusal {
     Plan(Fault),
     TooManyLabels,
     NotAdmitted,
+}
+
+impl Refusal {
+    // The number of the refusal.
+    pub fn number(self) -> u64
+        ensures { λ r. ⌜ r ≡ refusalNumber self ⌝ }
+    {
+        match self {
+            Refusal::ShortMemory => 11,
+            Refusal::Plan(f) => f.number(),
+            Refusal::TooManyLabels => 12,
+            Refusal::NotAdmitted => 13,
+        }
+    }
 }
 
 // A trace that is written has so many bytes.
