@@ -269,8 +269,9 @@ fn gain_in(tasks: [Task; 4], count: usize, k: usize, work: u8) -> u8
     requires { ⌜ length tasks ≡ maxTasks ⌝ }
     ensures { λ r. ⌜ r ≡ cond (eqb work 1) (taskAt (tasksOf tasks count) k .value) 0 ⌝ }
 {
-    if work == 1 {
-        let task = task_in(tasks, count, k);
+    let task = task_in(tasks, count, k);
+    let last = 1;
+    if work == last {
         return task.value;
     }
     0
