@@ -59,7 +59,7 @@ pub task-number : (ts : Tasks) (k : ℕ) → taskOf ts (taskIn k) ≡ taskAt ts 
 task-number ts k = let e : taskIn k - 1 ≡ k % maxTasks = omega arith in ap (λ n. getD ts n noTask) e
 
 -- a job's release slot from its cell
-released : (ts : Tasks) (k w : ℕ) → 0 < leftIn ts k → releaseSlot ts (jobIn ts k w) ≡ maxWindow - ageIn k
+pub released : (ts : Tasks) (k w : ℕ) → 0 < leftIn ts k → releaseSlot ts (jobIn ts k w) ≡ maxWindow - ageIn k
 released ts k w h = omega (arith, ap (λ (t : Task). t .window) (task-number ts k))
 
 module _ (ts : Tasks) (policy k i w w′ : ℕ) (lt : i < k) (hk : k < places) (lk : leftIn ts k ≤ maxWindow) (li : leftIn ts i ≤ maxWindow)

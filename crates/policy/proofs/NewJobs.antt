@@ -21,15 +21,14 @@ use Rattle.policy.proofs.Lists.{flatMap-same, flatMap-none, flatMap-shi
 use Rattle.policy.proofs.Cells.{jobs-table, jobs-sized, cells-table, work-within}
 
 -- the new jobs of the task at j, where the tasks are numbered from i
-newIn : Tasks → ℕ → ℕ → ℕ → List Job
+abbrev pub newIn : Tasks → ℕ → ℕ → ℕ → List Job
 newIn ts l i j = consIf (ltb 0 (newWork ts l j)) (record { task = i + j; work = newWork ts l j; left = getD ts j noTask .window }) []
 
 bit-next : (l j : ℕ) → bit l (j + 1) ≡ bit (l / 2) j
 bit-next l j = ap (λ n. eqb (n % 2) 1) (ap (λ k. l / 2 ^ k) (add-comm j 1) ∙ sym (shr-shr l 1 j))
 
-new-jobs : (ts : Tasks) (l i m : ℕ) → length ts ≤ m → ((j : ℕ) → j < length ts → 1 ≤ getD ts j noTask .work)
+pub new-jobs : (ts : Tasks) (l i m : ℕ) → length ts ≤ m → ((j : ℕ) → j < length ts → 1 ≤ getD ts j noTask .work)
     → newJobs ts l i ≡ flatMap (newIn ts l i) (upFrom 0 m)
-unfolding newIn
 new-jobs [] l i m h w = sym (flatMap-none (newIn [] l i) (upFrom 0 m) (λ j _. none (λ b. record { task = i + j; work = cond b 0 0; left = 0 }) (bit l j)))
   where
     none : (x : (b : Bool) → Job) (b : Bool) → consIf (ltb 0 (cond b 0 0)) (x b) [] ≡ []
@@ -76,7 +75,6 @@ joined-new ts cells l j =
 
 module _ (ts : Tasks) (cells : List ℕ) (l : ℕ) (r : TasksInRange ts) (h : Cells ts cellCount cells) where
   last-row : (j : ℕ) → j < maxTasks → jobsIn ts (j + cellCount) (joined ts cells l (j + cellCount)) ≡ newIn ts l 1 j
-  unfolding newIn
   last-row j lt =
       let work : joined ts cells l (j + cellCount) ≡ newWork ts l j = ap (joined ts cells l) (add-comm j cellCount) ∙ joined-new ts cells l j in
       let number : taskIn (j + cellCount) ≡ 1 + j = omega arith in
