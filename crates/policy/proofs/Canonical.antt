@@ -2,14 +2,14 @@
 -- Assumes nothing.
 use mathlib.Core.Path.{_≡_, refl, sym, _∙_, ap, subst}
 use mathlib.Core.Bool.{Bool, true, false, cond, _&&_}
-use mathlib.Core.List.{List, [], _∷_, _++_, map, map-map, map-id, Memᴰ·of-map, List·Memᴰ, List·Memᴰ·head, List·Memᴰ·tail, List·Memᴰ·not-nil, List·Memᴰ·eq-of-singleton, List·Memᴰ·append-cases}
+use mathlib.Core.List.{List, [], _++_, map, map-map, map-id, Memᴰ·of-map, List·Memᴰ, List·Memᴰ·head, List·Memᴰ·not-nil, List·Memᴰ·eq-of-singleton, List·Memᴰ·append-cases}
 use mathlib.Core.Logic.{⊎-elim, _⊎_, inl, inr}
 use mathlib.Core.Option.{Option, none, some}
-use Prim.Native.Nat.{ℕ, zero, suc, _+_, _-_, _*_, _/_, _%_, _≤_, _<_}
+use Prim.Native.Nat.{ℕ, suc, _+_, _-_, _*_, _/_, _%_, _≤_, _<_}
 use native.Mathlib.Nat.{eq-zero-or-pos}
 use native.Mathlib.Omega.{arith}
 use borrow.Author.Tests.{ltb-true, lt-ltb, eqb-true}
-use lib.Dec.{ltb, leb, eqb}
+use lib.Dec.{ltb, eqb}
 use lib.ListN.{length, getD}
 use lib.Seq.{ext-getD}
 use Rattle.model.specs.Limits.{maxTasks, maxWindow}
@@ -18,7 +18,7 @@ use Rattle.model.specs.Plan.{Task, Plan}
 use Rattle.model.specs.Slot.{Job, noTask, taskOf, releaseSlot, newJobs, canFinish, isJob, worked, tick, stays, key, first, runFirst, ready, slot}
 use Rattle.model.proofs.Lists.{Rising, rising-from, mem-of-keep, mem-of-flatMap, mem-flatMap, mem-of-upFrom, mem-upFrom}
 use Rattle.model.proofs.Plan.{both}
-use Rattle.policy.specs.View.{Tasks, cellCount, slotCells, taskIn, taskAt, ageIn, leftIn, jobIn, jobsIn, jobsOf, newWork, InRange, TasksInRange, Cells}
+use Rattle.policy.specs.View.{Tasks, cellCount, slotCells, taskIn, leftIn, jobIn, jobsIn, jobsOf, newWork, TasksInRange, Cells}
 use Rattle.policy.proofs.Rising.{rising-kept, rising-append, rising-lower, rising-apart, rising-flatMap}
 use Rattle.policy.proofs.Cells.{jobs-sized, window-low, task-cases, one-cell}
 use Rattle.policy.proofs.Keys.{task-number, released}

@@ -1,22 +1,22 @@
 -- The label's new jobs join: the cells of the last row.
 -- Assumes nothing.
-use mathlib.Core.Path.{_≡_, refl, sym, _∙_, ap, ap₂, subst}
+use mathlib.Core.Path.{_≡_, refl, sym, _∙_, ap, ap₂}
 use mathlib.Core.Bool.{Bool, true, false, cond}
 use mathlib.Core.List.{List, [], _∷_, _++_, map}
-use Prim.Native.Nat.{ℕ, zero, suc, _+_, _-_, _*_, _/_, _%_, _^_, _≤_, _<_}
+use Prim.Native.Nat.{ℕ, zero, suc, _+_, _-_, _/_, _%_, _^_, _≤_, _<_}
 use native.Mathlib.Nat.{add-comm, div-one, le-of-suc-le-suc, not-suc-le-zero}
 use native.Mathlib.Numerals.{add-one}
 use native.Mathlib.Omega.{arith}
-use borrow.Author.Tests.{lt-ltb, le-ltb, ltb-true, ltb-false}
+use borrow.Author.Tests.{lt-ltb, le-ltb, ltb-false}
 use lib.Dec.{ltb, eqb}
 use lib.ListN.{length, getD}
 use lib.Pow.{shr-shr}
-use Rattle.model.specs.Limits.{maxTasks, maxWindow}
+use Rattle.model.specs.Limits.{maxTasks}
 use Rattle.model.specs.Lists.{consIf, flatMap, upFrom, bit}
 use Rattle.model.specs.Plan.{Task}
 use Rattle.model.specs.Slot.{Job, noTask, newJobs}
 use Rattle.model.proofs.Lists.{flatMap-append, mem-of-upFrom, upFrom-append}
-use Rattle.policy.specs.View.{Tasks, cellCount, slotCells, taskIn, taskAt, ageIn, leftIn, jobIn, jobsIn, jobsOf, newWork, TasksInRange, Cells}
+use Rattle.policy.specs.View.{Tasks, cellCount, slotCells, taskIn, taskAt, leftIn, jobsIn, jobsOf, newWork, TasksInRange, Cells}
 use Rattle.policy.proofs.Lists.{flatMap-same, flatMap-none, flatMap-shift}
 use Rattle.policy.proofs.Cells.{jobs-table, jobs-sized, cells-table, work-within}
 

@@ -9,8 +9,8 @@ use native.Mathlib.Omega.{arith}
 use borrow.Author.Tests.{ltb-true}
 use lib.Dec.{leb, ltb}
 use lib.ListN.{length, getD, set}
-use Rattle.model.specs.Limits.{maxTasks, maxWindow}
-use Rattle.model.specs.Lists.{keep, upFrom}
+use Rattle.model.specs.Limits.{maxTasks}
+use Rattle.model.specs.Lists.{keep}
 use Rattle.model.specs.Slot.{newJobs, canFinish, tick, stays}
 use Rattle.model.proofs.Lists.{getD-table}
 use Rattle.policy.specs.View.{Tasks, cellCount, slotCells, leftIn, leftTable, jobsOf, newWork, codeIn, TasksInRange, Cells, Filled, Chosen, places, noCode}

@@ -1,7 +1,7 @@
 -- What the cells of a node's jobs stand for.
 use mathlib.Core.Path.{_≡_}
 use mathlib.Core.Bool.{Bool, cond}
-use mathlib.Core.List.{List, [], _∷_, map}
+use mathlib.Core.List.{List, [], map}
 use mathlib.Core.Option.{Option, none, some}
 use Prim.Native.Nat.{ℕ, suc, _+_, _-_, _*_, _/_, _%_, _<_, _≤_}
 use lib.Dec.{eqb, ltb}
@@ -120,8 +120,6 @@ abbrev pub tasksIn : Rules → Tasks
 tasksIn r = tasksOf (r .tasks) (r .count)
 
 pub record Ruled (r : Rules) : Type 0 where
-  pub count : r .count ≤ maxTasks
-  pub room : length (r .tasks) ≡ maxTasks
   pub tasks : TasksInRange (tasksIn r)
   pub left : r .left ≡ leftTable (tasksIn r)
 
