@@ -1,4 +1,4 @@
--- What the cells of a node's jobs stand for.
+-- What the cells of a node's jobs, the rules and a slot's result stand for.
 use mathlib.Core.Path.{_≡_}
 use mathlib.Core.Bool.{Bool, cond}
 use mathlib.Core.List.{List, [], map}
@@ -12,6 +12,7 @@ use Rattle.model.specs.Plan as model
 use Rattle.model.specs.Slot as model-slot
 use Rattle.model.specs.Slot.{Job, noTask, edf, srt, fifo, first, key}
 use Rattle.plan.specs.View.{tasksOf}
+use Rattle.plan.specs.declared.Plan.{Plan}
 use Rattle.policy.specs.declared.Rules.{Rules}
 use Rattle.policy.specs.declared.Done.{Done}
 
@@ -123,11 +124,16 @@ pub record Ruled (r : Rules) : Type 0 where
   pub tasks : TasksInRange (tasksIn r)
   pub left : r .left ≡ leftTable (tasksIn r)
 
+-- the rules of a plan
+pub record RulesOf (p : Plan) (r : Rules) : Type 0 where
+  pub ruled : Ruled r
+  pub tasks : tasksIn r ≡ tasksOf (p .tasks) (p .count)
+  pub policy : r .policy ≡ p .policy
+
 abbrev pub doneOf : Tasks → Done → model-slot.Done
 doneOf ts d = record { jobs = jobsOf ts (d .cells); ran = d .ran; gain = d .gain }
 
-abbrev pub ModelPlan : Type 0
-ModelPlan = model.Plan
-
-abbrev pub slotDone : ModelPlan → List Job → ℕ → model-slot.Done
-slotDone P js l = model-slot.slot P js l
+-- what a slot leaves is the rule's, and cells again
+pub record Slotted (r : Rules) (before : List ℕ) (label : ℕ) (d : Done) : Type 0 where
+  pub rule : (P : model.Plan) → P .tasks ≡ tasksIn r → P .policy ≡ r .policy → doneOf (tasksIn r) d ≡ model-slot.slot P (jobsOf (tasksIn r) before) label
+  pub cells : Cells (tasksIn r) cellCount (d .cells)

@@ -12,7 +12,7 @@ ghost use Rattle.model.specs.Limits.{maxTasks, maxWindow};
 ghost use Rattle.model.specs.Lists.{keep};
 ghost use Rattle.model.specs.Slot.{newJobs, canFinish, worked, tick, stays};
 ghost use Rattle.plan.specs.View.{taskOf, tasksOf};
-ghost use Rattle.policy.specs.View.{Tasks, cellCount, slotCells, taskAt, leftIn, leftTable, jobIn, jobsOf, TasksInRange, Cells, Filled, Low, hasWork, newWork, keyNumber, keyIn, codeIn, Chosen, tasksIn, Ruled, doneOf, ModelPlan, slotDone};
+ghost use Rattle.policy.specs.View.{Tasks, cellCount, slotCells, taskAt, leftIn, leftTable, jobIn, jobsOf, TasksInRange, Cells, Filled, Low, hasWork, newWork, keyNumber, keyIn, codeIn, Chosen, tasksIn, Ruled, RulesOf, Slotted};
 
 const MAX_TASKS: usize = 4;
 
@@ -100,7 +100,7 @@ fn left_table(tasks: [Task; MAX_TASKS], count: usize) -> [u8; SLOT_CELLS]
 // The rules of a plan.
 pub fn rules_of(plan: Plan) -> Rules
     requires { ⌜ TasksInRange (tasksOf (plan .tasks) (plan .count)) ⌝ }
-    ensures { λ r. ⌜ Ruled r × (tasksIn r ≡ tasksOf (plan .tasks) (plan .count)) × (r .policy ≡ plan .policy) ⌝ }
+    ensures { λ r. ⌜ RulesOf plan r ⌝ }
 {
     let tasks = plan.tasks;
     let count = plan.count;
@@ -284,7 +284,7 @@ fn gain_in(tasks: [Task; MAX_TASKS], count: usize, k: usize, work: u8) -> u8
 // One slot with a label, from the cells that the slot before left.
 pub fn slot(rules: Rules, cells: [u8; CELLS], label: u8) -> Done
     requires { ⌜ Ruled rules × Cells (tasksIn rules) cellCount cells ⌝ }
-    ensures { λ r. ⌜ ((P : ModelPlan) → P .tasks ≡ tasksIn rules → P .policy ≡ rules .policy → doneOf (tasksIn rules) r ≡ slotDone P (jobsOf (tasksIn rules) cells) label) × Cells (tasksIn rules) cellCount (r .cells) ⌝ }
+    ensures { λ r. ⌜ Slotted rules cells label r ⌝ }
 {
     let tasks = rules.tasks;
     let count = rules.count;

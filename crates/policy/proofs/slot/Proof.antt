@@ -1,11 +1,11 @@
 -- `policy::slot` meets its contract: the steps on cells are those of the rule.
 -- Assumes nothing.
-use mathlib.Core.Path.{_≡_, ap, _∙_, subst}
+use mathlib.Core.Path.{_≡_, ap, _∙_}
 use mathlib.Core.List.{_++_}
 use Prim.Native.Nat.{_<_}
 use Rattle.model.specs.Lists.{keep}
-use Rattle.model.specs.Slot.{canFinish, newJobs, key, first}
-use Rattle.policy.specs.View.{Tasks, slotCells, jobsOf, tasksIn, choiceIn, Cells, Chosen, Ruled}
+use Rattle.model.specs.Slot.{canFinish, newJobs}
+use Rattle.policy.specs.View.{Tasks, slotCells, jobsOf, tasksIn, Cells, Chosen, Ruled}
 use Rattle.policy.proofs.Keys.{low-cells, low-left}
 use Rattle.policy.proofs.Rule.{slot-idle, slot-ran}
 use borrow.Author.Needs.{needs}
@@ -59,13 +59,11 @@ returns : tie.Need-returns
 returns c =
     let ch = c .before .before .before .before in
     let d = ch .before .before .before in
-    let aged = c .age .ensures (tasks d) (ruled d .tasks) (ruled d .left) (readied d .1) in (
-      λ P same by.
-          slot-idle P (tasks d) _ same by _ _ (d .drop-hopeless .result) (dropped d) _
-          (subst (λ k. choiceIn (tasks d) (d .drop-hopeless .result) k ≡ first (key (tasks d) (start d .args .rules .policy)) (jobsOf (tasks d) (d .drop-hopeless .result))) (c .before .before .before .if1 .taken) (chosen ch .choice))
-          (aged .0),
-      aged .1,
-    )
+    let aged = c .age .ensures (tasks d) (ruled d .tasks) (ruled d .left) (readied d .1) in
+    record {
+      rule = λ P same by. slot-idle P (tasks d) _ same by _ _ (d .drop-hopeless .result) (dropped d) (ch .choose .result) (c .before .before .before .if1 .taken) (chosen ch .choice) _ (aged .0);
+      cells = aged .1;
+    }
 
 array-read-gain-in : tie.Need-array-read-gain-in
 array-read-gain-in c = inside c
@@ -91,12 +89,11 @@ returns-2 c =
     let ch = other .before in
     let d = ch .before .before .before in
     let ran = c .before .before .before .run .ensures (tasks d) (readied d .1) in
-    let aged = c .age2 .ensures (tasks d) (ruled d .tasks) (ruled d .left) (ran .1) in (
-      λ P same by.
-          slot-ran P (tasks d) _ same by _ _ (d .drop-hopeless .result) (dropped d) (ch .choose .result) (inside other) (chosen ch .choice) _ _
-          (ran .0) (aged .0) _ (c .before .before .before .before .gain-in .ensures),
-      aged .1,
-    )
+    let aged = c .age2 .ensures (tasks d) (ruled d .tasks) (ruled d .left) (ran .1) in
+    record {
+      rule = λ P same by. slot-ran P (tasks d) _ same by _ _ (d .drop-hopeless .result) (dropped d) (ch .choose .result) (inside other) (chosen ch .choice) _ _ (ran .0) (aged .0) _ (c .before .before .before .before .gain-in .ensures);
+      cells = aged .1;
+    }
 
 pub slot-spec : {M : Type 1} → statement M
 slot-spec =
