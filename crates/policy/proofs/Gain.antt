@@ -109,6 +109,15 @@ module _ (P : Plan) (r : TasksInRange (P .tasks)) (js : List Job) (c : Canonical
   pub gain-finished : slot P js l .gain ≡ sumOf (λ j. taskOf (P .tasks) (j .task) .value) (finished P js l)
   gain-finished = finished-gain .1
 
+  -- the task that ran is there
+  pub ran-task : slot P js l .ran ≤ length (P .tasks)
+  unfolding slot
+  ran-task = go (ready P js l) (ready-canonical P r js c l) (first (key (P .tasks) (P .policy)) (ready P js l)) refl
+    where
+      go : (rs : List Job) → Canonical (P .tasks) 0 rs → (o : Option Job) → first (key (P .tasks) (P .policy)) rs ≡ o → runFirst (P .tasks) rs o .ran ≤ length (P .tasks)
+      go rs d none e = omega arith
+      go rs d (some x) e = d .each x (chosen-mem (key (P .tasks) (P .policy)) rs x e) .there
+
 -- whatever the jobs, the gain is 0 or a task's value
 pub gain-value : (P : Plan) (js : List Job) (l : ℕ) → (slot P js l .gain ≡ 0) ⊎ ((i : ℕ) × (i < length (P .tasks)) × (slot P js l .gain ≡ getD (P .tasks) i noTask .value))
 unfolding slot
