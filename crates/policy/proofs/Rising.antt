@@ -6,9 +6,9 @@ use mathlib.Core.List.{List, [], _∷_, _++_, map, List·Memᴰ, List·Memᴰ·h
 use Prim.Native.Nat.{ℕ, zero, suc, _+_, _-_, _≤_, _<_}
 use native.Mathlib.Nat.{not-suc-le-zero, le-of-suc-le-suc}
 use native.Mathlib.Omega.{arith}
-use lib.ListN.{length, getD}
+use lib.ListN.{length, getD, length-map}
 use Rattle.model.specs.Lists.{consIf, keep, flatMap, upFrom}
-use Rattle.model.proofs.Lists.{Rising, rising-from}
+use Rattle.model.proofs.Lists.{Rising, rising-from, rising-at}
 
 module _ {ℓ} {A : Type ℓ} (f : A → ℕ) where
   pub rising-kept : (p : A → Bool) (k : ℕ) (l : List A) → Rising k (map f l) → Rising k (map f (keep p l))
@@ -36,16 +36,14 @@ module _ {ℓ} {A : Type ℓ} (f : A → ℕ) where
   rising-mem k (x ∷ l) r (List·Memᴰ·head p) = omega (arith, r .0, ap f p)
   rising-mem k (x ∷ l) r (List·Memᴰ·tail m) = omega (arith, r .0, rising-mem (suc (f x)) l (r .1) m)
 
-  above : (k : ℕ) (l : List A) (i : ℕ) (d : A) → Rising k (map f l) → i < length l → k ≤ f (getD l i d)
-  above k [] i d r h = absurd (not-suc-le-zero h)
-  above k (x ∷ l) zero d r h = r .0
-  above k (x ∷ l) (suc i) d r h = omega (arith, above (suc (f x)) l i d (r .1) (le-of-suc-le-suc h))
+  getD-mapped : (l : List A) (i : ℕ) (d : A) → i < length l → getD (map f l) i 0 ≡ f (getD l i d)
+  getD-mapped [] i d h = absurd (not-suc-le-zero h)
+  getD-mapped (x ∷ l) zero d h = refl
+  getD-mapped (x ∷ l) (suc i) d h = getD-mapped l i d (le-of-suc-le-suc h)
 
   pub rising-apart : (k : ℕ) (l : List A) (i j : ℕ) (d : A) → Rising k (map f l) → i < j → j < length l → f (getD l i d) < f (getD l j d)
-  rising-apart k [] i j d r h h′ = absurd (not-suc-le-zero h′)
-  rising-apart k (x ∷ l) i zero d r h h′ = absurd (not-suc-le-zero h)
-  rising-apart k (x ∷ l) zero (suc j) d r h h′ = above (suc (f x)) l j d (r .1) (le-of-suc-le-suc h′)
-  rising-apart k (x ∷ l) (suc i) (suc j) d r h h′ = rising-apart (suc (f x)) l i j d (r .1) (le-of-suc-le-suc h) (le-of-suc-le-suc h′)
+  rising-apart k l i j d r h h′ =
+      omega (arith, rising-at k (map f l) r i j h (omega (arith, length-map l f)), getD-mapped l i d (omega arith), getD-mapped l j d h′)
 
   -- lists for the numbers from k up, each with numbers from its own bound up to the next
   pub rising-flatMap : (g : ℕ → List A) (b : ℕ → ℕ) (k n : ℕ)

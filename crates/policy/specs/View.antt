@@ -69,6 +69,11 @@ pub record Cells (ts : Tasks) (n : ℕ) (cells : List ℕ) : Type 0 where
   pub work : (k : ℕ) → getD cells k 0 ≤ taskAt ts k .work
   pub left : (k : ℕ) → 0 < getD cells k 0 → 0 < leftIn ts k
 
+-- n cells that stand for the jobs js
+pub record Leaves (ts : Tasks) (js : List Job) (n : ℕ) (after : List ℕ) : Type 0 where
+  pub jobs : jobsOf ts after ≡ js
+  pub cells : Cells ts n after
+
 abbrev pub hasWork : Job → Bool
 hasWork j = ltb 0 (j .work)
 

@@ -12,7 +12,7 @@ ghost use Rattle.model.specs.Limits.{maxTasks, maxWindow};
 ghost use Rattle.model.specs.Lists.{keep};
 ghost use Rattle.model.specs.Slot.{newJobs, canFinish, worked, tick, stays};
 ghost use Rattle.plan.specs.View.{taskOf, tasksOf};
-ghost use Rattle.policy.specs.View.{Tasks, cellCount, slotCells, taskAt, leftIn, leftTable, jobIn, jobsOf, TasksInRange, Cells, Filled, Low, hasWork, newWork, keyNumber, keyIn, codeIn, Chosen, tasksIn, Ruled, RulesOf, Slotted};
+ghost use Rattle.policy.specs.View.{Tasks, cellCount, slotCells, taskAt, leftIn, leftTable, jobIn, jobsOf, TasksInRange, Cells, Leaves, Filled, Low, hasWork, newWork, keyNumber, keyIn, codeIn, Chosen, tasksIn, Ruled, RulesOf, Slotted};
 
 const MAX_TASKS: usize = 4;
 
@@ -115,7 +115,7 @@ pub fn rules_of(plan: Plan) -> Rules
 
 // The cells of no jobs.
 pub fn no_jobs() -> [u8; CELLS]
-    ensures { λ r. ⌜ ((ts : Tasks) → (jobsOf ts r ≡ []) × Cells ts cellCount r) ⌝ }
+    ensures { λ r. ⌜ ((ts : Tasks) → Leaves ts [] cellCount r) ⌝ }
 {
     [0; CELLS]
 }
@@ -148,7 +148,7 @@ fn widen(cells: [u8; CELLS]) -> [u8; SLOT_CELLS]
 // 1. The label's new jobs join.
 fn join(tasks: [Task; MAX_TASKS], count: usize, cells: [u8; CELLS], label: u8) -> [u8; SLOT_CELLS]
     requires { ⌜ TasksInRange (tasksOf tasks count) × Cells (tasksOf tasks count) cellCount cells ⌝ }
-    ensures { λ r. ⌜ (jobsOf (tasksOf tasks count) r ≡ jobsOf (tasksOf tasks count) cells ++ newJobs (tasksOf tasks count) label 1) × Cells (tasksOf tasks count) slotCells r ⌝ }
+    ensures { λ r. ⌜ Leaves (tasksOf tasks count) (jobsOf (tasksOf tasks count) cells ++ newJobs (tasksOf tasks count) label 1) slotCells r ⌝ }
 {
     let mut joined = widen(cells);
     let mut i = 0;
@@ -168,7 +168,7 @@ fn if_hopeful(work: u8, left: u8) -> u8
 
 // 2. Each job with more work remaining than slots left is dropped.
 fn drop_hopeless(cells: &[u8; SLOT_CELLS], left: &[u8; SLOT_CELLS]) -> [u8; SLOT_CELLS]
-    ensures { λ r. ⌜ ((ts : Tasks) → now (left .entry) ≡ leftTable ts → Cells ts slotCells (now (cells .entry)) → (jobsOf ts r ≡ keep canFinish (jobsOf ts (now (cells .entry)))) × Cells ts slotCells r) ⌝ }
+    ensures { λ r. ⌜ ((ts : Tasks) → now (left .entry) ≡ leftTable ts → Cells ts slotCells (now (cells .entry)) → Leaves ts (keep canFinish (jobsOf ts (now (cells .entry)))) slotCells r) ⌝ }
 {
     let mut kept = [0u8; SLOT_CELLS];
     let mut k = 0;
@@ -242,7 +242,7 @@ fn choose(policy: u8, cells: &[u8; SLOT_CELLS], left: &[u8; SLOT_CELLS]) -> usiz
 // The job in a cell runs: its work falls by 1.
 fn run(cells: [u8; SLOT_CELLS], at: usize) -> [u8; SLOT_CELLS]
     requires { ⌜ (at < slotCells) × (0 < getD cells at 0) ⌝ }
-    ensures { λ r. ⌜ ((ts : Tasks) → Cells ts slotCells cells → (jobsOf ts r ≡ keep hasWork (map (worked (jobIn ts at (getD cells at 0))) (jobsOf ts cells))) × Cells ts slotCells r) ⌝ }
+    ensures { λ r. ⌜ ((ts : Tasks) → Cells ts slotCells cells → Leaves ts (keep hasWork (map (worked (jobIn ts at (getD cells at 0))) (jobsOf ts cells))) slotCells r) ⌝ }
 {
     let mut after = cells;
     after[at] = cells[at] - 1;
@@ -258,7 +258,7 @@ fn if_staying(work: u8, left: u8) -> u8
 
 // 4. Slots left falls by 1, and at 0 the job goes.
 fn age(cells: &[u8; SLOT_CELLS], left: &[u8; SLOT_CELLS]) -> [u8; CELLS]
-    ensures { λ r. ⌜ ((ts : Tasks) → TasksInRange ts → now (left .entry) ≡ leftTable ts → Cells ts slotCells (now (cells .entry)) → (jobsOf ts r ≡ keep stays (map tick (jobsOf ts (now (cells .entry))))) × Cells ts cellCount r) ⌝ }
+    ensures { λ r. ⌜ ((ts : Tasks) → TasksInRange ts → now (left .entry) ≡ leftTable ts → Cells ts slotCells (now (cells .entry)) → Leaves ts (keep stays (map tick (jobsOf ts (now (cells .entry))))) cellCount r) ⌝ }
 {
     let mut older = [0u8; CELLS];
     let mut k = 0;
