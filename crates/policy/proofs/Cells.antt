@@ -1,21 +1,21 @@
 -- The slot rule's steps, cell by cell.
 -- Assumes nothing.
-use mathlib.Core.Path.{_≡_, refl, sym, _∙_, ap, ap₂, subst}
+use mathlib.Core.Path.{_≡_, refl, sym, _∙_, ap, subst}
 use mathlib.Core.Bool.{Bool, true, false, cond, _&&_, and-false}
-use mathlib.Core.List.{List, [], _∷_, _++_, map, List·Memᴰ}
+use mathlib.Core.List.{List, [], _∷_, _++_, map}
 use mathlib.Core.Logic.{⊎-elim, _⊎_, inl, inr}
-use Prim.Native.Nat.{ℕ, zero, suc, _+_, _-_, _*_, _/_, _%_, _≤_, _<_}
+use Prim.Native.Nat.{ℕ, zero, suc, _+_, _-_, _%_, _≤_, _<_}
 use native.Mathlib.Omega.{arith}
-use borrow.Author.Tests.{lt-ltb, le-ltb, ltb-true, ltb-false, leb-true, leb-false, eq-eqb, ne-eqb, eqb-true, eqb-false}
+use borrow.Author.Tests.{lt-ltb, le-ltb, ltb-true, ltb-false, eq-eqb, eqb-true, eqb-false}
 use lib.Dec.{leb, ltb, eqb}
 use lib.ListN.{length, getD, set, length-set, replicate, length-replicate, getD-replicate, List·getD-eq-default}
 use lib.Seq.{getD-set-same, getD-set-other}
 use Rattle.model.specs.Limits.{maxTasks, maxWindow}
 use Rattle.model.specs.Lists.{consIf, keep, flatMap, upFrom}
 use Rattle.model.specs.Plan.{Task}
-use Rattle.model.specs.Slot.{Job, noTask, canFinish, isJob, worked, tick, stays}
+use Rattle.model.specs.Slot.{Job, noTask, canFinish, worked, tick, stays}
 use Rattle.model.proofs.Lists.{flatMap-append, getD-table, mem-of-upFrom, upFrom-append}
-use Rattle.policy.specs.View.{Tasks, cellCount, slotCells, taskIn, taskAt, ageIn, leftIn, jobIn, jobsIn, jobsOf, hasWork, InRange, TasksInRange, Cells}
+use Rattle.policy.specs.View.{Tasks, cellCount, slotCells, taskIn, taskAt, leftIn, jobIn, jobsIn, jobsOf, hasWork, InRange, TasksInRange, Cells}
 use Rattle.policy.proofs.Lists.{flatMap-same, flatMap-none, keep-flatMap, map-flatMap, flatMap-shift, length-table}
 
 -- ---- ranges

@@ -2,22 +2,22 @@
 -- Assumes nothing.
 use mathlib.Core.Path.{_≡_, refl, sym, _∙_, ap, ap₂, subst, subst₂}
 use mathlib.Core.Bool.{Bool, true, false, cond, _&&_, _||_}
-use mathlib.Core.List.{List, [], _∷_, _++_, map, foldl, foldl-append, append-nil}
-use mathlib.Core.Logic.{⊎-elim, _⊎_, inl, inr}
+use mathlib.Core.List.{List, [], _∷_, _++_, foldl, foldl-append, append-nil}
+use mathlib.Core.Logic.{_⊎_, inl, inr}
 use mathlib.Core.Option.{Option, none, some}
-use Prim.Native.Nat.{ℕ, zero, suc, _+_, _-_, _*_, _/_, _%_, _≤_, _<_}
+use Prim.Native.Nat.{ℕ, zero, suc, _+_, _-_, _*_, _%_, _≤_, _<_}
 use native.Mathlib.Nat.{zero-add, suc-mul, mul-le-mul-right, le-refl}
 use native.Mathlib.Numerals.{add-one}
 use native.Mathlib.Omega.{arith}
 use borrow.Author.Tests.{lt-ltb, le-ltb, ltb-true, ltb-false, eq-eqb, ne-eqb, eqb-true, eqb-false}
 use lib.Dec.{ltb, eqb}
-use lib.ListN.{length, getD, List·getD-eq-default}
+use lib.ListN.{getD, List·getD-eq-default}
 use Rattle.model.specs.Limits.{maxTasks, maxWindow}
 use Rattle.model.specs.Lists.{consIf, flatMap, upFrom}
 use Rattle.model.specs.Plan.{Task}
 use Rattle.model.specs.Slot.{Job, noTask, taskOf, releaseSlot, edf, srt, fifo, key, keyBelow, sooner, first}
 use Rattle.model.proofs.Lists.{flatMap-append, upFrom-append, getD-table}
-use Rattle.policy.specs.View.{Tasks, slotCells, taskIn, taskAt, ageIn, leftIn, leftTable, Low, jobIn, jobsIn, jobsOf, TasksInRange, Cells, Chosen, choiceIn, keyNumber, keyIn, codeIn, places, noCode}
+use Rattle.policy.specs.View.{Tasks, slotCells, taskIn, taskAt, ageIn, leftIn, leftTable, Low, jobIn, jobsIn, jobsOf, TasksInRange, Cells, Chosen, keyNumber, keyIn, codeIn, places, noCode}
 use Rattle.policy.proofs.Lists.{length-table}
 use Rattle.policy.proofs.Cells.{jobs-sized, window-low, work-within}
 
@@ -59,7 +59,7 @@ pub task-number : (ts : Tasks) (k : ℕ) → taskOf ts (taskIn k) ≡ taskAt ts 
 task-number ts k = let e : taskIn k - 1 ≡ k % maxTasks = omega arith in ap (λ n. getD ts n noTask) e
 
 -- a job's release slot from its cell
-released : (ts : Tasks) (k w : ℕ) → 0 < leftIn ts k → releaseSlot ts (jobIn ts k w) ≡ maxWindow - ageIn k
+pub released : (ts : Tasks) (k w : ℕ) → 0 < leftIn ts k → releaseSlot ts (jobIn ts k w) ≡ maxWindow - ageIn k
 released ts k w h = omega (arith, ap (λ (t : Task). t .window) (task-number ts k))
 
 module _ (ts : Tasks) (policy k i w w′ : ℕ) (lt : i < k) (hk : k < places) (lk : leftIn ts k ≤ maxWindow) (li : leftIn ts i ≤ maxWindow)

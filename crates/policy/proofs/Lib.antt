@@ -4,3 +4,7 @@ pub mod NewJobs
 pub mod Keys
 pub mod Steps
 pub mod Rule
+pub mod Rising
+pub mod Canonical
+pub mod Gain
+pub mod Sound

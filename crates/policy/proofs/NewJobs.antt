@@ -1,35 +1,34 @@
 -- The label's new jobs join: the cells of the last row.
 -- Assumes nothing.
-use mathlib.Core.Path.{_≡_, refl, sym, _∙_, ap, ap₂, subst}
+use mathlib.Core.Path.{_≡_, refl, sym, _∙_, ap, ap₂}
 use mathlib.Core.Bool.{Bool, true, false, cond}
 use mathlib.Core.List.{List, [], _∷_, _++_, map}
-use Prim.Native.Nat.{ℕ, zero, suc, _+_, _-_, _*_, _/_, _%_, _^_, _≤_, _<_}
+use Prim.Native.Nat.{ℕ, zero, suc, _+_, _-_, _/_, _%_, _^_, _≤_, _<_}
 use native.Mathlib.Nat.{add-comm, div-one, le-of-suc-le-suc, not-suc-le-zero}
 use native.Mathlib.Numerals.{add-one}
 use native.Mathlib.Omega.{arith}
-use borrow.Author.Tests.{lt-ltb, le-ltb, ltb-true, ltb-false}
+use borrow.Author.Tests.{lt-ltb, le-ltb, ltb-false}
 use lib.Dec.{ltb, eqb}
 use lib.ListN.{length, getD}
 use lib.Pow.{shr-shr}
-use Rattle.model.specs.Limits.{maxTasks, maxWindow}
+use Rattle.model.specs.Limits.{maxTasks}
 use Rattle.model.specs.Lists.{consIf, flatMap, upFrom, bit}
 use Rattle.model.specs.Plan.{Task}
 use Rattle.model.specs.Slot.{Job, noTask, newJobs}
 use Rattle.model.proofs.Lists.{flatMap-append, mem-of-upFrom, upFrom-append}
-use Rattle.policy.specs.View.{Tasks, cellCount, slotCells, taskIn, taskAt, ageIn, leftIn, jobIn, jobsIn, jobsOf, newWork, TasksInRange, Cells}
+use Rattle.policy.specs.View.{Tasks, cellCount, slotCells, taskIn, taskAt, leftIn, jobsIn, jobsOf, newWork, TasksInRange, Cells}
 use Rattle.policy.proofs.Lists.{flatMap-same, flatMap-none, flatMap-shift}
 use Rattle.policy.proofs.Cells.{jobs-table, jobs-sized, cells-table, work-within}
 
 -- the new jobs of the task at j, where the tasks are numbered from i
-newIn : Tasks → ℕ → ℕ → ℕ → List Job
+abbrev pub newIn : Tasks → ℕ → ℕ → ℕ → List Job
 newIn ts l i j = consIf (ltb 0 (newWork ts l j)) (record { task = i + j; work = newWork ts l j; left = getD ts j noTask .window }) []
 
 bit-next : (l j : ℕ) → bit l (j + 1) ≡ bit (l / 2) j
 bit-next l j = ap (λ n. eqb (n % 2) 1) (ap (λ k. l / 2 ^ k) (add-comm j 1) ∙ sym (shr-shr l 1 j))
 
-new-jobs : (ts : Tasks) (l i m : ℕ) → length ts ≤ m → ((j : ℕ) → j < length ts → 1 ≤ getD ts j noTask .work)
+pub new-jobs : (ts : Tasks) (l i m : ℕ) → length ts ≤ m → ((j : ℕ) → j < length ts → 1 ≤ getD ts j noTask .work)
     → newJobs ts l i ≡ flatMap (newIn ts l i) (upFrom 0 m)
-unfolding newIn
 new-jobs [] l i m h w = sym (flatMap-none (newIn [] l i) (upFrom 0 m) (λ j _. none (λ b. record { task = i + j; work = cond b 0 0; left = 0 }) (bit l j)))
   where
     none : (x : (b : Bool) → Job) (b : Bool) → consIf (ltb 0 (cond b 0 0)) (x b) [] ≡ []
@@ -76,7 +75,6 @@ joined-new ts cells l j =
 
 module _ (ts : Tasks) (cells : List ℕ) (l : ℕ) (r : TasksInRange ts) (h : Cells ts cellCount cells) where
   last-row : (j : ℕ) → j < maxTasks → jobsIn ts (j + cellCount) (joined ts cells l (j + cellCount)) ≡ newIn ts l 1 j
-  unfolding newIn
   last-row j lt =
       let work : joined ts cells l (j + cellCount) ≡ newWork ts l j = ap (joined ts cells l) (add-comm j cellCount) ∙ joined-new ts cells l j in
       let number : taskIn (j + cellCount) ≡ 1 + j = omega arith in

@@ -3,13 +3,12 @@
 use mathlib.Core.Path.{_≡_, refl, sym, _∙_, ap}
 use mathlib.Core.Bool.{Bool, true, false, cond}
 use mathlib.Core.List.{List, [], _∷_, _++_, map}
-use mathlib.Core.Option.{Option, none, some}
-use Prim.Native.Nat.{ℕ, _+_, _%_, _≤_, _<_}
+use Prim.Native.Nat.{ℕ, _+_, _%_, _<_}
 use native.Mathlib.Numerals.{add-one}
 use native.Mathlib.Omega.{arith}
-use borrow.Author.Tests.{lt-ltb}
-use lib.Dec.{eqb, ltb}
-use lib.ListN.{getD, List·getD-eq-default}
+use borrow.Author.Tests.{lt-ltb, le-ltb}
+use lib.Dec.{eqb}
+use lib.ListN.{getD}
 use Rattle.model.specs.Limits.{maxTasks}
 use Rattle.model.specs.Lists.{consIf, keep}
 use Rattle.model.specs.Plan.{Task, Plan}
@@ -36,10 +35,12 @@ module _ (P : Plan) (ts : Tasks) (policy : ℕ) (same : P .tasks ≡ ts) (by : P
       (λ i. runFirst (same i) (keep canFinish (js ++ newJobs (same i) l 1)) (first (key (same i) (by i)) (keep canFinish (js ++ newJobs (same i) l 1))))
       ∙ ap (λ r. runFirst ts r (first (key ts policy) r)) (sym dropped)
 
-  pub slot-idle : (older : List ℕ) → choiceIn ts cells slotCells ≡ first (key ts policy) (jobsOf ts cells)
-      → jobsOf ts older ≡ keep stays (map tick (jobsOf ts cells)) → _≡_ {A = Done} (record { jobs = jobsOf ts older; ran = 0; gain = 0 }) (slot P js l)
-  slot-idle older choice end =
-      (λ i. record { jobs = end i; ran = 0; gain = 0 }) ∙ ap (runFirst ts (jobsOf ts cells)) choice ∙ sym slot-ready
+  pub slot-idle : (at : ℕ) → at ≡ slotCells → choiceIn ts cells at ≡ first (key ts policy) (jobsOf ts cells)
+      → (older : List ℕ) → jobsOf ts older ≡ keep stays (map tick (jobsOf ts cells)) → _≡_ {A = Done} (record { jobs = jobsOf ts older; ran = 0; gain = 0 }) (slot P js l)
+  slot-idle at e choice older end =
+      (λ i. record { jobs = end i; ran = 0; gain = 0 })
+      ∙ ap (runFirst ts (jobsOf ts cells)) (rw (le-ltb at slotCells (omega arith)) at choice)
+      ∙ sym slot-ready
 
   module _ (at : ℕ) (lt : at < slotCells) (choice : choiceIn ts cells at ≡ first (key ts policy) (jobsOf ts cells)) (after older : List ℕ)
       (runs : jobsOf ts after ≡ keep hasWork (map (worked (jobIn ts at (getD cells at 0))) (jobsOf ts cells)))

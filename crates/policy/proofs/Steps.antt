@@ -9,11 +9,11 @@ use native.Mathlib.Omega.{arith}
 use borrow.Author.Tests.{ltb-true}
 use lib.Dec.{leb, ltb}
 use lib.ListN.{length, getD, set}
-use Rattle.model.specs.Limits.{maxTasks, maxWindow}
-use Rattle.model.specs.Lists.{keep, upFrom}
+use Rattle.model.specs.Limits.{maxTasks}
+use Rattle.model.specs.Lists.{keep}
 use Rattle.model.specs.Slot.{newJobs, canFinish, tick, stays}
 use Rattle.model.proofs.Lists.{getD-table}
-use Rattle.policy.specs.View.{Tasks, cellCount, slotCells, leftIn, leftTable, jobsOf, newWork, codeIn, TasksInRange, Cells, Filled, Chosen, places, noCode}
+use Rattle.policy.specs.View.{Tasks, cellCount, slotCells, leftIn, leftTable, jobsOf, newWork, codeIn, TasksInRange, Cells, Leaves, Filled, Chosen, places, noCode}
 use Rattle.policy.proofs.Lists.{filled-more, filled-all}
 use Rattle.policy.proofs.Cells.{hopeful, hopeful-jobs, hopeful-cells, aged, aged-jobs, aged-cells}
 use Rattle.policy.proofs.NewJobs.{joined, joined-old, joined-new, join-jobs, join-cells}
@@ -36,11 +36,11 @@ module _ (ts : Tasks) (l : ℕ) (wide : List ℕ) where
 
   pub joined-all : (i : ℕ) (cells after : List ℕ) → maxTasks ≤ i → Filled (λ k. getD cells k 0) slotCells cellCount wide
       → Filled (joined ts wide l) slotCells (cellCount + i) after → TasksInRange ts → Cells ts cellCount cells
-      → (jobsOf ts after ≡ jobsOf ts cells ++ newJobs ts l 1) × Cells ts slotCells after
+      → Leaves ts (jobsOf ts cells ++ newJobs ts l 1) slotCells after
   joined-all i cells after le w f r h =
-      subst (λ c. (jobsOf ts c ≡ jobsOf ts cells ++ newJobs ts l 1) × Cells ts slotCells c)
+      subst (Leaves ts (jobsOf ts cells ++ newJobs ts l 1) slotCells)
       (sym (filled-all (joined ts wide l) slotCells (cellCount + i) after (joined ts cells l) (omega arith) f (λ j lt. same j (ltb j cellCount) refl)))
-      (join-jobs ts cells l r h, join-cells ts cells l r h)
+      (record { jobs = join-jobs ts cells l r h; cells = join-cells ts cells l r h })
     where
       same : (j : ℕ) (b : Bool) → ltb j cellCount ≡ b → cond b (getD wide j 0) (newWork ts l (j - cellCount)) ≡ cond b (getD cells j 0) (newWork ts l (j - cellCount))
       same j true e = w .below j (ltb-true j cellCount e)
@@ -58,22 +58,22 @@ codeBy policy cells left k = codeIn policy k (getD cells k 0) (getD left k 0)
 
 module _ (ts : Tasks) (cells left : List ℕ) (e : left ≡ leftTable ts) where
   pub hopeful-all : (k : ℕ) (after : List ℕ) → slotCells ≤ k → Filled (hopefulBy cells left) slotCells k after → Cells ts slotCells cells
-      → (jobsOf ts after ≡ keep canFinish (jobsOf ts cells)) × Cells ts slotCells after
+      → Leaves ts (keep canFinish (jobsOf ts cells)) slotCells after
   hopeful-all k after le f h =
-      subst (λ c. (jobsOf ts c ≡ keep canFinish (jobsOf ts cells)) × Cells ts slotCells c)
+      subst (Leaves ts (keep canFinish (jobsOf ts cells)) slotCells)
       (sym
       (filled-all (hopefulBy cells left) slotCells k after (hopeful ts cells) le f
       (λ j lt. ap (λ n. cond (leb (getD cells j 0) n) (getD cells j 0) 0) (left-entry ts left j e lt))))
-      (hopeful-jobs ts slotCells cells (h .size), hopeful-cells ts slotCells cells h)
+      (record { jobs = hopeful-jobs ts slotCells cells (h .size); cells = hopeful-cells ts slotCells cells h })
 
   pub aged-all : (k : ℕ) (after : List ℕ) → cellCount ≤ k → Filled (agedBy cells left) cellCount k after → TasksInRange ts → Cells ts slotCells cells
-      → (jobsOf ts after ≡ keep stays (map tick (jobsOf ts cells))) × Cells ts cellCount after
+      → Leaves ts (keep stays (map tick (jobsOf ts cells))) cellCount after
   aged-all k after le f r h =
-      subst (λ c. (jobsOf ts c ≡ keep stays (map tick (jobsOf ts cells))) × Cells ts cellCount c)
+      subst (Leaves ts (keep stays (map tick (jobsOf ts cells))) cellCount)
       (sym
       (filled-all (agedBy cells left) cellCount k after (aged ts cells) le f
       (λ j lt. ap (λ n. cond (ltb 1 n) (getD cells (j + maxTasks) 0) 0) (left-entry ts left (j + maxTasks) e (omega arith)))))
-      (aged-jobs ts cells r (h .size), aged-cells ts cells h)
+      (record { jobs = aged-jobs ts cells r (h .size); cells = aged-cells ts cells h })
 
   pub codes-all : (policy n : ℕ) → n ≤ slotCells → leastTo (codeBy policy cells left) n ≡ leastTo (λ k. codeIn policy k (getD cells k 0) (leftIn ts k)) n
   codes-all policy zero le = refl

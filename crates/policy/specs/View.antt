@@ -1,7 +1,7 @@
--- What the cells of a node's jobs stand for.
+-- What the cells of a node's jobs, the rules and a slot's result stand for.
 use mathlib.Core.Path.{_≡_}
 use mathlib.Core.Bool.{Bool, cond}
-use mathlib.Core.List.{List, [], _∷_, map}
+use mathlib.Core.List.{List, [], map}
 use mathlib.Core.Option.{Option, none, some}
 use Prim.Native.Nat.{ℕ, suc, _+_, _-_, _*_, _/_, _%_, _<_, _≤_}
 use lib.Dec.{eqb, ltb}
@@ -12,6 +12,7 @@ use Rattle.model.specs.Plan as model
 use Rattle.model.specs.Slot as model-slot
 use Rattle.model.specs.Slot.{Job, noTask, edf, srt, fifo, first, key}
 use Rattle.plan.specs.View.{tasksOf}
+use Rattle.plan.specs.declared.Plan.{Plan}
 use Rattle.policy.specs.declared.Rules.{Rules}
 use Rattle.policy.specs.declared.Done.{Done}
 
@@ -68,6 +69,11 @@ pub record Cells (ts : Tasks) (n : ℕ) (cells : List ℕ) : Type 0 where
   pub work : (k : ℕ) → getD cells k 0 ≤ taskAt ts k .work
   pub left : (k : ℕ) → 0 < getD cells k 0 → 0 < leftIn ts k
 
+-- n cells that stand for the jobs js
+pub record Leaves (ts : Tasks) (js : List Job) (n : ℕ) (after : List ℕ) : Type 0 where
+  pub jobs : jobsOf ts after ≡ js
+  pub cells : Cells ts n after
+
 abbrev pub hasWork : Job → Bool
 hasWork j = ltb 0 (j .work)
 
@@ -120,16 +126,19 @@ abbrev pub tasksIn : Rules → Tasks
 tasksIn r = tasksOf (r .tasks) (r .count)
 
 pub record Ruled (r : Rules) : Type 0 where
-  pub count : r .count ≤ maxTasks
-  pub room : length (r .tasks) ≡ maxTasks
   pub tasks : TasksInRange (tasksIn r)
   pub left : r .left ≡ leftTable (tasksIn r)
+
+-- the rules of a plan
+pub record RulesOf (p : Plan) (r : Rules) : Type 0 where
+  pub ruled : Ruled r
+  pub tasks : tasksIn r ≡ tasksOf (p .tasks) (p .count)
+  pub policy : r .policy ≡ p .policy
 
 abbrev pub doneOf : Tasks → Done → model-slot.Done
 doneOf ts d = record { jobs = jobsOf ts (d .cells); ran = d .ran; gain = d .gain }
 
-abbrev pub ModelPlan : Type 0
-ModelPlan = model.Plan
-
-abbrev pub slotDone : ModelPlan → List Job → ℕ → model-slot.Done
-slotDone P js l = model-slot.slot P js l
+-- what a slot leaves is the rule's, and cells again
+pub record Slotted (r : Rules) (before : List ℕ) (label : ℕ) (d : Done) : Type 0 where
+  pub rule : (P : model.Plan) → P .tasks ≡ tasksIn r → P .policy ≡ r .policy → doneOf (tasksIn r) d ≡ model-slot.slot P (jobsOf (tasksIn r) before) label
+  pub cells : Cells (tasksIn r) cellCount (d .cells)

@@ -5,28 +5,35 @@ use plan::Task;
 ghost use mathlib.Core.Path.{_≡_};
 ghost use mathlib.Core.Bool.{cond};
 ghost use mathlib.Core.List.{[], _++_, map};
-ghost use Prim.Native.Nat.{ℕ, suc, _+_, _-_, _*_, _%_, _<_, _≤_};
+ghost use Prim.Native.Nat.{_<_, _≤_};
 ghost use lib.Dec.{eqb, leb, ltb};
-ghost use lib.ListN.{length, getD};
+ghost use lib.ListN.{getD};
 ghost use Rattle.model.specs.Limits.{maxTasks, maxWindow};
 ghost use Rattle.model.specs.Lists.{keep};
 ghost use Rattle.model.specs.Slot.{newJobs, canFinish, worked, tick, stays};
 ghost use Rattle.plan.specs.View.{taskOf, tasksOf};
-ghost use Rattle.policy.specs.View.{Tasks, cellCount, slotCells, taskIn, taskAt, leftIn, leftTable, jobIn, jobsOf, TasksInRange, Cells, Filled, Low, hasWork, newWork, keyNumber, keyIn, codeIn, Chosen, tasksIn, Ruled, doneOf, ModelPlan, slotDone};
+ghost use Rattle.policy.specs.View.{Tasks, cellCount, slotCells, taskAt, leftIn, leftTable, jobIn, jobsOf, TasksInRange, Cells, Leaves, Filled, Low, hasWork, newWork, keyNumber, keyIn, codeIn, Chosen, tasksIn, Ruled, RulesOf, Slotted};
 
 const MAX_TASKS: usize = 4;
 
 const MAX_WINDOW: usize = 8;
 
 // Cells between slots, where no job has age 0, and during a slot, where the new jobs are the last.
-pub const CELLS: usize = 28;
+pub const CELLS: usize = MAX_TASKS * (MAX_WINDOW - 1);
 
-pub const SLOT_CELLS: usize = 32;
+pub const SLOT_CELLS: usize = MAX_TASKS * MAX_WINDOW;
+
+// The policies; any other number is static priority.
+const EDF: u8 = 1;
+
+const SRT: u8 = 2;
+
+const FIFO: u8 = 3;
 
 // The parts of a key are below these: a task, slots left or work, a cell.
-const TASK_BASE: u16 = 5;
+const TASK_BASE: u16 = MAX_TASKS as u16 + 1;
 
-const WINDOW_BASE: u16 = 9;
+const WINDOW_BASE: u16 = MAX_WINDOW as u16 + 1;
 
 const PLACES: u16 = 64;
 
@@ -35,22 +42,21 @@ const NO_CODE: u16 = 65535;
 
 // The tasks and the policy of a plan, and the slots left of a job in each cell.
 pub struct Rules {
-    pub tasks: [Task; 4],
+    pub tasks: [Task; MAX_TASKS],
     pub count: usize,
     pub policy: u8,
-    pub left: [u8; 32],
+    pub left: [u8; SLOT_CELLS],
 }
 
 // What a slot leaves: the cells, the task that ran, 0 for none, and the gain.
 pub struct Done {
-    pub cells: [u8; 28],
+    pub cells: [u8; CELLS],
     pub ran: u8,
     pub gain: u8,
 }
 
 // The task of a cell; one with no work and no window where it is not there.
-fn task_in(tasks: [Task; 4], count: usize, k: usize) -> Task
-    requires { ⌜ length tasks ≡ maxTasks ⌝ }
+fn task_in(tasks: [Task; MAX_TASKS], count: usize, k: usize) -> Task
     ensures { λ r. ⌜ taskOf r ≡ taskAt (tasksOf tasks count) k ⌝ }
 {
     let i = k % MAX_TASKS;
@@ -65,8 +71,8 @@ fn task_in(tasks: [Task; 4], count: usize, k: usize) -> Task
 }
 
 // The slots left of a job in a cell.
-fn left_in(tasks: [Task; 4], count: usize, k: usize) -> u8
-    requires { ⌜ (length tasks ≡ maxTasks) × (k < slotCells) ⌝ }
+fn left_in(tasks: [Task; MAX_TASKS], count: usize, k: usize) -> u8
+    requires { ⌜ k < slotCells ⌝ }
     ensures { λ r. ⌜ r ≡ leftIn (tasksOf tasks count) k ⌝ }
 {
     let task = task_in(tasks, count, k);
@@ -79,11 +85,10 @@ fn left_in(tasks: [Task; 4], count: usize, k: usize) -> u8
 }
 
 // The slots left of a job in each cell.
-fn left_table(tasks: [Task; 4], count: usize) -> [u8; 32]
-    requires { ⌜ length tasks ≡ maxTasks ⌝ }
+fn left_table(tasks: [Task; MAX_TASKS], count: usize) -> [u8; SLOT_CELLS]
     ensures { λ r. ⌜ r ≡ leftTable (tasksOf tasks count) ⌝ }
 {
-    let mut left = [0u8; 32];
+    let mut left = [0u8; SLOT_CELLS];
     let mut k = 0;
     while k < SLOT_CELLS {
         left[k] = left_in(tasks, count, k);
@@ -94,8 +99,8 @@ fn left_table(tasks: [Task; 4], count: usize) -> [u8; 32]
 
 // The rules of a plan.
 pub fn rules_of(plan: Plan) -> Rules
-    requires { ⌜ (plan .count ≤ maxTasks) × (length (plan .tasks) ≡ maxTasks) × TasksInRange (tasksOf (plan .tasks) (plan .count)) ⌝ }
-    ensures { λ r. ⌜ Ruled r × (tasksIn r ≡ tasksOf (plan .tasks) (plan .count)) × (r .policy ≡ plan .policy) ⌝ }
+    requires { ⌜ TasksInRange (tasksOf (plan .tasks) (plan .count)) ⌝ }
+    ensures { λ r. ⌜ RulesOf plan r ⌝ }
 {
     let tasks = plan.tasks;
     let count = plan.count;
@@ -109,15 +114,15 @@ pub fn rules_of(plan: Plan) -> Rules
 }
 
 // The cells of no jobs.
-pub fn no_jobs() -> [u8; 28]
-    ensures { λ r. ⌜ ((ts : Tasks) → (jobsOf ts r ≡ []) × Cells ts cellCount r) ⌝ }
+pub fn no_jobs() -> [u8; CELLS]
+    ensures { λ r. ⌜ ((ts : Tasks) → Leaves ts [] cellCount r) ⌝ }
 {
-    [0; 28]
+    [0; CELLS]
 }
 
 // The work of a new job of the task at i, 0 where the label has none.
-fn new_work(tasks: [Task; 4], count: usize, label: u8, i: usize) -> u8
-    requires { ⌜ (length tasks ≡ maxTasks) × (i < maxTasks) ⌝ }
+fn new_work(tasks: [Task; MAX_TASKS], count: usize, label: u8, i: usize) -> u8
+    requires { ⌜ i < maxTasks ⌝ }
     ensures { λ r. ⌜ r ≡ newWork (tasksOf tasks count) label i ⌝ }
 {
     if (label >> i) % 2 == 0 {
@@ -128,10 +133,10 @@ fn new_work(tasks: [Task; 4], count: usize, label: u8, i: usize) -> u8
 }
 
 // The cells with room for new jobs.
-fn widen(cells: [u8; 28]) -> [u8; 32]
+fn widen(cells: [u8; CELLS]) -> [u8; SLOT_CELLS]
     ensures { λ r. ⌜ Filled (λ k. getD cells k 0) slotCells cellCount r ⌝ }
 {
-    let mut wide = [0u8; 32];
+    let mut wide = [0u8; SLOT_CELLS];
     let mut k = 0;
     while k < CELLS {
         wide[k] = cells[k];
@@ -141,9 +146,9 @@ fn widen(cells: [u8; 28]) -> [u8; 32]
 }
 
 // 1. The label's new jobs join.
-fn join(tasks: [Task; 4], count: usize, cells: [u8; 28], label: u8) -> [u8; 32]
-    requires { ⌜ (length tasks ≡ maxTasks) × TasksInRange (tasksOf tasks count) × Cells (tasksOf tasks count) cellCount cells ⌝ }
-    ensures { λ r. ⌜ (jobsOf (tasksOf tasks count) r ≡ jobsOf (tasksOf tasks count) cells ++ newJobs (tasksOf tasks count) label 1) × Cells (tasksOf tasks count) slotCells r ⌝ }
+fn join(tasks: [Task; MAX_TASKS], count: usize, cells: [u8; CELLS], label: u8) -> [u8; SLOT_CELLS]
+    requires { ⌜ TasksInRange (tasksOf tasks count) × Cells (tasksOf tasks count) cellCount cells ⌝ }
+    ensures { λ r. ⌜ Leaves (tasksOf tasks count) (jobsOf (tasksOf tasks count) cells ++ newJobs (tasksOf tasks count) label 1) slotCells r ⌝ }
 {
     let mut joined = widen(cells);
     let mut i = 0;
@@ -162,10 +167,10 @@ fn if_hopeful(work: u8, left: u8) -> u8
 }
 
 // 2. Each job with more work remaining than slots left is dropped.
-fn drop_hopeless(cells: &[u8; 32], left: &[u8; 32]) -> [u8; 32]
-    ensures { λ r. ⌜ ((ts : Tasks) → now (left .entry) ≡ leftTable ts → Cells ts slotCells (now (cells .entry)) → (jobsOf ts r ≡ keep canFinish (jobsOf ts (now (cells .entry)))) × Cells ts slotCells r) ⌝ }
+fn drop_hopeless(cells: &[u8; SLOT_CELLS], left: &[u8; SLOT_CELLS]) -> [u8; SLOT_CELLS]
+    ensures { λ r. ⌜ ((ts : Tasks) → now (left .entry) ≡ leftTable ts → Cells ts slotCells (now (cells .entry)) → Leaves ts (keep canFinish (jobsOf ts (now (cells .entry)))) slotCells r) ⌝ }
 {
-    let mut kept = [0u8; 32];
+    let mut kept = [0u8; SLOT_CELLS];
     let mut k = 0;
     while k < SLOT_CELLS {
         kept[k] = if_hopeful(cells[k], left[k]);
@@ -193,9 +198,9 @@ fn key_of(policy: u8, k: usize, work: u8, left: u8) -> u16
     let work = work as u16;
     let left = left as u16;
     match policy {
-        1 => key(left, task, 0),
-        2 => key(work, task, left),
-        3 => key(released, task, 0),
+        EDF => key(left, task, 0),
+        SRT => key(work, task, left),
+        FIFO => key(released, task, 0),
         _ => key(0, task, left),
     }
 }
@@ -218,7 +223,7 @@ fn least(a: u16, b: u16) -> u16
 }
 
 // 3. The cell of the first job by the policy's key; SLOT_CELLS where there is no job.
-fn choose(policy: u8, cells: &[u8; 32], left: &[u8; 32]) -> usize
+fn choose(policy: u8, cells: &[u8; SLOT_CELLS], left: &[u8; SLOT_CELLS]) -> usize
     requires { ⌜ Low (now cells) × Low (now left) ⌝ }
     ensures { λ r. ⌜ ((ts : Tasks) → TasksInRange ts → now (left .entry) ≡ leftTable ts → Cells ts slotCells (now (cells .entry)) → Chosen ts policy (now (cells .entry)) r) ⌝ }
 {
@@ -235,9 +240,9 @@ fn choose(policy: u8, cells: &[u8; 32], left: &[u8; 32]) -> usize
 }
 
 // The job in a cell runs: its work falls by 1.
-fn run(cells: [u8; 32], at: usize) -> [u8; 32]
+fn run(cells: [u8; SLOT_CELLS], at: usize) -> [u8; SLOT_CELLS]
     requires { ⌜ (at < slotCells) × (0 < getD cells at 0) ⌝ }
-    ensures { λ r. ⌜ ((ts : Tasks) → Cells ts slotCells cells → (jobsOf ts r ≡ keep hasWork (map (worked (jobIn ts at (getD cells at 0))) (jobsOf ts cells))) × Cells ts slotCells r) ⌝ }
+    ensures { λ r. ⌜ ((ts : Tasks) → Cells ts slotCells cells → Leaves ts (keep hasWork (map (worked (jobIn ts at (getD cells at 0))) (jobsOf ts cells))) slotCells r) ⌝ }
 {
     let mut after = cells;
     after[at] = cells[at] - 1;
@@ -252,10 +257,10 @@ fn if_staying(work: u8, left: u8) -> u8
 }
 
 // 4. Slots left falls by 1, and at 0 the job goes.
-fn age(cells: &[u8; 32], left: &[u8; 32]) -> [u8; 28]
-    ensures { λ r. ⌜ ((ts : Tasks) → TasksInRange ts → now (left .entry) ≡ leftTable ts → Cells ts slotCells (now (cells .entry)) → (jobsOf ts r ≡ keep stays (map tick (jobsOf ts (now (cells .entry))))) × Cells ts cellCount r) ⌝ }
+fn age(cells: &[u8; SLOT_CELLS], left: &[u8; SLOT_CELLS]) -> [u8; CELLS]
+    ensures { λ r. ⌜ ((ts : Tasks) → TasksInRange ts → now (left .entry) ≡ leftTable ts → Cells ts slotCells (now (cells .entry)) → Leaves ts (keep stays (map tick (jobsOf ts (now (cells .entry))))) cellCount r) ⌝ }
 {
-    let mut older = [0u8; 28];
+    let mut older = [0u8; CELLS];
     let mut k = 0;
     while k < CELLS {
         older[k] = if_staying(cells[k + MAX_TASKS], left[k + MAX_TASKS]);
@@ -265,21 +270,21 @@ fn age(cells: &[u8; 32], left: &[u8; 32]) -> [u8; 28]
 }
 
 // The gain where a job with so much work remaining runs.
-fn gain_in(tasks: [Task; 4], count: usize, k: usize, work: u8) -> u8
-    requires { ⌜ length tasks ≡ maxTasks ⌝ }
+fn gain_in(tasks: [Task; MAX_TASKS], count: usize, k: usize, work: u8) -> u8
     ensures { λ r. ⌜ r ≡ cond (eqb work 1) (taskAt (tasksOf tasks count) k .value) 0 ⌝ }
 {
-    if work == 1 {
-        let task = task_in(tasks, count, k);
+    let task = task_in(tasks, count, k);
+    let last = 1;
+    if work == last {
         return task.value;
     }
     0
 }
 
 // One slot with a label, from the cells that the slot before left.
-pub fn slot(rules: Rules, cells: [u8; 28], label: u8) -> Done
+pub fn slot(rules: Rules, cells: [u8; CELLS], label: u8) -> Done
     requires { ⌜ Ruled rules × Cells (tasksIn rules) cellCount cells ⌝ }
-    ensures { λ r. ⌜ ((P : ModelPlan) → P .tasks ≡ tasksIn rules → P .policy ≡ rules .policy → doneOf (tasksIn rules) r ≡ slotDone P (jobsOf (tasksIn rules) cells) label) × Cells (tasksIn rules) cellCount (r .cells) ⌝ }
+    ensures { λ r. ⌜ Slotted rules cells label r ⌝ }
 {
     let tasks = rules.tasks;
     let count = rules.count;

@@ -11,10 +11,10 @@ task-in-requires : tie.Need-task-in-requires
 task-in-requires c κs = search needs
 
 returns : tie.Need-returns
-returns c = rw (eq-eqb (c .before .before .args .work) 1 (c .before .if1 .taken)) (ap (λ (t : Task). t .value) (c .task-in .ensures))
+returns c = rw (eq-eqb (c .before .before .args .work) 1 (c .if1 .taken)) (ap (λ (t : Task). t .value) (c .before .task-in .ensures))
 
 returns-2 : tie.Need-returns-2
-returns-2 c = rw (ne-eqb (c .before .args .work) 1 (c .if1 .left))
+returns-2 c = rw (ne-eqb (c .before .before .args .work) 1 (c .if1 .left))
 
 pub gain-in-spec : {M : Type 1} → statement M
 gain-in-spec = tie.close (tie.spec task-in-requires returns returns-2)

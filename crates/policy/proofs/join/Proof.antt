@@ -1,6 +1,5 @@
 -- `policy::join` meets its contract: the loop adds the new jobs behind the cells.
 -- Assumes nothing.
-use mathlib.Core.Path.{refl}
 use Prim.Native.Nat.{_+_, _-_, _≤_}
 use Rattle.model.specs.Limits.{maxTasks}
 use Rattle.plan.specs.View.{tasksOf}
@@ -29,7 +28,7 @@ loop-holds : tie.Need-loop-holds Inv-loop μ-loop
 loop-holds c = (omega arith, joined-none (given (c .before)) _ (c .widen .result) (c .widen .ensures .size))
 
 new-work-requires : tie.Need-new-work-requires Inv-loop μ-loop
-new-work-requires c κs = (c .before .before .before .pre .0, c .loop-test .taken)
+new-work-requires c κs = c .loop-test .taken
 
 add-joined : tie.Need-add-joined Inv-loop μ-loop
 add-joined c = omega arith
@@ -49,7 +48,7 @@ loop-again c = (omega arith, joined-more (given (c .before .before .before .befo
 returns : tie.Need-returns Inv-loop μ-loop
 returns c =
     let start = c .before .before .before in
-    joined-all (given start) _ (c .before .before .widen .result) _ _ _ (c .loop-test .left) (c .before .before .widen .ensures) (c .before .loop .inv .1) (start .pre .1) (start .pre .2)
+    joined-all (given start) _ (c .before .before .widen .result) _ _ _ (c .loop-test .left) (c .before .before .widen .ensures) (c .before .loop .inv .1) (start .pre .0) (start .pre .1)
 
 pub join-spec : {M : Type 1} → statement M
 join-spec =

@@ -6,7 +6,7 @@ use Rattle.policy.proofs.no_jobs.Statement.{statement}
 use Rattle.policy.proofs.no_jobs.Tie as tie
 
 returns : tie.Need-returns
-returns c = λ ts. (empty-jobs ts cellCount, empty-cells ts cellCount)
+returns c = λ ts. record { jobs = empty-jobs ts cellCount; cells = empty-cells ts cellCount }
 
 pub no-jobs-spec : {M : Type 1} → statement M
 no-jobs-spec = tie.close (tie.spec returns)

@@ -15,7 +15,7 @@ array-write-after : tie.Need-array-write-after
 array-write-after c = search needs
 
 returns : tie.Need-returns
-returns c = λ ts h. (run-jobs ts _ _ h (c .pre .0) (c .pre .1), run-cells ts _ _ h (c .pre .0) (c .pre .1))
+returns c = λ ts h. record { jobs = run-jobs ts _ _ h (c .pre .0) (c .pre .1); cells = run-cells ts _ _ h (c .pre .0) (c .pre .1) }
 
 pub run-spec : {M : Type 1} → statement M
 run-spec = tie.close (tie.spec array-read-after sub-after array-write-after returns)

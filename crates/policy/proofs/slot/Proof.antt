@@ -1,11 +1,11 @@
 -- `policy::slot` meets its contract: the steps on cells are those of the rule.
 -- Assumes nothing.
-use mathlib.Core.Path.{_≡_, ap, _∙_, subst}
+use mathlib.Core.Path.{_≡_, ap, _∙_}
 use mathlib.Core.List.{_++_}
 use Prim.Native.Nat.{_<_}
 use Rattle.model.specs.Lists.{keep}
-use Rattle.model.specs.Slot.{canFinish, newJobs, key, first}
-use Rattle.policy.specs.View.{Tasks, slotCells, jobsOf, tasksIn, choiceIn, Cells, Chosen, Ruled}
+use Rattle.model.specs.Slot.{canFinish, newJobs}
+use Rattle.policy.specs.View.{Tasks, slotCells, jobsOf, tasksIn, Leaves, Chosen, Ruled}
 use Rattle.policy.proofs.Keys.{low-cells, low-left}
 use Rattle.policy.proofs.Rule.{slot-idle, slot-ran}
 use borrow.Author.Needs.{needs}
@@ -24,19 +24,18 @@ module _ (d : tie.After-drop-hopeless) where
   ruled : Ruled (start d .args .rules)
   ruled = start d .pre .0
 
-  readied : (jobsOf (tasks d) (d .drop-hopeless .result) ≡ keep canFinish (jobsOf (tasks d) (d .before .before .before .join .result)))
-      × Cells (tasks d) slotCells (d .drop-hopeless .result)
-  readied = d .drop-hopeless .ensures (tasks d) (ruled .left) (d .before .before .before .join .ensures .1)
+  readied : Leaves (tasks d) (keep canFinish (jobsOf (tasks d) (d .before .before .before .join .result))) slotCells (d .drop-hopeless .result)
+  readied = d .drop-hopeless .ensures (tasks d) (ruled .left) (d .before .before .before .join .ensures .cells)
 
   dropped : jobsOf (tasks d) (d .drop-hopeless .result)
       ≡ keep canFinish (jobsOf (tasks d) (start d .args .cells) ++ newJobs (tasks d) (start d .args .label) 1)
-  dropped = readied .0 ∙ ap (keep canFinish) (d .before .before .before .join .ensures .0)
+  dropped = readied .jobs ∙ ap (keep canFinish) (d .before .before .before .join .ensures .jobs)
 
 -- the job that is chosen
 chosen : (c : tie.After-choose) → Chosen (tasks (c .before .before .before)) (start (c .before .before .before) .args .rules .policy) (c .before .before .before .drop-hopeless .result) (c .choose .result)
 chosen c =
     let d = c .before .before .before in
-    c .choose .ensures (tasks d) (ruled d .tasks) (ruled d .left) (readied d .1)
+    c .choose .ensures (tasks d) (ruled d .tasks) (ruled d .left) (readied d .cells)
 
 inside : (c : tie.Else1) → c .before .choose .result < slotCells
 inside c = omega (arith, chosen (c .before) .bound, c .if1 .left)
@@ -50,7 +49,7 @@ drop-hopeless-requires c κs = search needs
 choose-requires : tie.Need-choose-requires
 choose-requires c κs =
     let d = c .before .before in
-    (low-cells (tasks d) slotCells _ (ruled d .tasks) (readied d .1), low-left (tasks d) _ (ruled d .tasks) (ruled d .left))
+    (low-cells (tasks d) slotCells _ (ruled d .tasks) (readied d .cells), low-left (tasks d) _ (ruled d .tasks) (ruled d .left))
 
 age-requires : tie.Need-age-requires
 age-requires c κs = search needs
@@ -59,13 +58,11 @@ returns : tie.Need-returns
 returns c =
     let ch = c .before .before .before .before in
     let d = ch .before .before .before in
-    let aged = c .age .ensures (tasks d) (ruled d .tasks) (ruled d .left) (readied d .1) in (
-      λ P same by.
-          slot-idle P (tasks d) _ same by _ _ (d .drop-hopeless .result) (dropped d) _
-          (subst (λ k. choiceIn (tasks d) (d .drop-hopeless .result) k ≡ first (key (tasks d) (start d .args .rules .policy)) (jobsOf (tasks d) (d .drop-hopeless .result))) (c .before .before .before .if1 .taken) (chosen ch .choice))
-          (aged .0),
-      aged .1,
-    )
+    let aged = c .age .ensures (tasks d) (ruled d .tasks) (ruled d .left) (readied d .cells) in
+    record {
+      rule = λ P same by. slot-idle P (tasks d) _ same by _ _ (d .drop-hopeless .result) (dropped d) (ch .choose .result) (c .before .before .before .if1 .taken) (chosen ch .choice) _ (aged .jobs);
+      cells = aged .cells;
+    }
 
 array-read-gain-in : tie.Need-array-read-gain-in
 array-read-gain-in c = inside c
@@ -90,13 +87,12 @@ returns-2 c =
     let other = c .before .before .before .before .before in
     let ch = other .before in
     let d = ch .before .before .before in
-    let ran = c .before .before .before .run .ensures (tasks d) (readied d .1) in
-    let aged = c .age2 .ensures (tasks d) (ruled d .tasks) (ruled d .left) (ran .1) in (
-      λ P same by.
-          slot-ran P (tasks d) _ same by _ _ (d .drop-hopeless .result) (dropped d) (ch .choose .result) (inside other) (chosen ch .choice) _ _
-          (ran .0) (aged .0) _ (c .before .before .before .before .gain-in .ensures),
-      aged .1,
-    )
+    let ran = c .before .before .before .run .ensures (tasks d) (readied d .cells) in
+    let aged = c .age2 .ensures (tasks d) (ruled d .tasks) (ruled d .left) (ran .cells) in
+    record {
+      rule = λ P same by. slot-ran P (tasks d) _ same by _ _ (d .drop-hopeless .result) (dropped d) (ch .choose .result) (inside other) (chosen ch .choice) _ _ (ran .jobs) (aged .jobs) _ (c .before .before .before .before .gain-in .ensures);
+      cells = aged .cells;
+    }
 
 pub slot-spec : {M : Type 1} → statement M
 slot-spec =

@@ -2,9 +2,10 @@
 -- Assumes nothing.
 use mathlib.Core.Path.{_≡_, sym, ap, _∙_}
 use mathlib.Core.List.{List}
-use Prim.Native.Nat.{ℕ, _≤_, _<_}
+use Prim.Native.Nat.{ℕ, _%_, _≤_, _<_}
 use lib.ListN.{getD, take, length-map, length-take, List·getD-map, List·getD-eq-default}
 use lib.Seq.{getD-take}
+use Rattle.model.specs.Limits.{maxTasks}
 use Rattle.model.specs.Slot.{noTask}
 use Rattle.plan.specs.declared.Task.{Task}
 use Rattle.plan.specs.View.{taskOf, tasksOf}
@@ -22,7 +23,9 @@ given ts n i h =
     sym (List·getD-map taskOf (take n ts) i (record { work = 0; window = 0; value = 0 }) ∙ ap taskOf (getD-take n ts i (record { work = 0; window = 0; value = 0 }) h))
 
 returns : tie.Need-returns
-returns c = sym (not-given _ _ _ (c .if1 .taken))
+returns c =
+    let a = c .before .args in
+    sym (not-given (a .t1) (a .count) (a .k % maxTasks) (c .if1 .taken))
 
 mul-result : tie.Need-mul-result
 mul-result c = search needs
@@ -31,7 +34,9 @@ array-copy-out-result : tie.Need-array-copy-out-result
 array-copy-out-result c = search needs
 
 returns-2 : tie.Need-returns-2
-returns-2 c = given _ _ _ (c .before .if1 .left)
+returns-2 c =
+    let a = c .before .before .args in
+    given (a .t1) (a .count) (a .k % maxTasks) (c .before .if1 .left)
 
 pub task-in-spec : {M : Type 1} → statement M
 task-in-spec = tie.close (tie.spec returns mul-result array-copy-out-result returns-2)
