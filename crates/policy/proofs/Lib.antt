@@ -7,4 +7,3 @@ pub mod Rule
 pub mod Rising
 pub mod Canonical
 pub mod Gain
-pub mod Sound

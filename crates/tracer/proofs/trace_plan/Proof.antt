@@ -24,7 +24,7 @@ returns-2 c =
 rules-of-requires : tie.Need-rules-of-requires
 rules-of-requires c κs =
     let s = c .before .before .before .before .before .before .before in
-    (s .pre .0 .fits, s .pre .0 .room, tasks-range (planOf (s .args .plan)) (s .pre .1))
+    tasks-range (planOf (s .args .plan)) (s .pre .1)
 
 write-slots-requires : tie.Need-write-slots-requires
 write-slots-requires c κs = search needs
@@ -43,7 +43,7 @@ returns-3 c =
     let s = a .before .before .before .before .before .before in
     let P = planOf (s .args .plan) in
     told-trace _ P (now (s .args .labels)) _ _ (all-admitted _ _ (a .before .before .if1 .left) (sym (a .admitted .ensures P refl) ∙ not-false _ (r .before .if2 .left)))
-    (w .write-slots .ensures P (sym (r .rules-of .ensures .1)) (sym (r .rules-of .ensures .2)))
+    (w .write-slots .ensures P (sym (r .rules-of .ensures .tasks)) (sym (r .rules-of .ensures .policy)))
 
 pub trace-plan-spec : {M : Type 1} → statement M
 trace-plan-spec =

@@ -10,10 +10,10 @@ use native.Mathlib.Omega.{arith}
 use lib.ListN.{length, getD}
 use Rattle.model.specs.Bytes.{overwrite}
 use Rattle.model.specs.Plan.{Plan}
-use Rattle.model.specs.Slot.{Job}
+use Rattle.model.specs.Slot.{Job, slot}
 use Rattle.policy.specs.declared.Rules.{Rules}
 use Rattle.policy.specs.declared.Done.{Done}
-use Rattle.policy.specs.View.{tasksIn, jobsOf, cellCount, Cells, doneOf, slotDone}
+use Rattle.policy.specs.View.{tasksIn, jobsOf, cellCount, Cells, Leaves, doneOf}
 use Rattle.tracer.proofs.Slots.{Writing, slotBytes, writing-start, writing-next, writing-end}
 use Rattle.tracer.proofs.write_slots.Statement.{statement}
 use Rattle.tracer.proofs.write_slots.Tie as tie
@@ -26,19 +26,19 @@ record Reached (rules : Rules) (labels before now′ cells : List ℕ) (i : ℕ)
   writing : (P : Plan) → P .tasks ≡ tasksIn rules → P .policy ≡ rules .policy → Writing P labels before now′ (jobsOf (tasksIn rules) cells) i
 
 -- before the first label
-reached-start : (rules : Rules) (labels before cells : List ℕ) → (jobsOf (tasksIn rules) cells ≡ []) × Cells (tasksIn rules) cellCount cells →
+reached-start : (rules : Rules) (labels before cells : List ℕ) → Leaves (tasksIn rules) [] cellCount cells →
     Reached rules labels before before cells 0
 reached-start rules labels before cells h = record {
-  held = h .1;
+  held = h .cells;
   inside = omega arith;
   size = refl;
-  writing = λ P t p. rw (h .0) (writing-start P labels before);
+  writing = λ P t p. rw (h .jobs) (writing-start P labels before);
 }
 
 -- one label more
 module _ (rules : Rules) (labels before now′ cells : List ℕ) (i : ℕ) (room : 3 * length labels ≤ length before)
     (h : Reached rules labels before now′ cells i) (more : i < length labels) (d : Done) (after : List ℕ)
-    (done : (P : Plan) → P .tasks ≡ tasksIn rules → P .policy ≡ rules .policy → doneOf (tasksIn rules) d ≡ slotDone P (jobsOf (tasksIn rules) cells) (getD labels i 0))
+    (done : (P : Plan) → P .tasks ≡ tasksIn rules → P .policy ≡ rules .policy → doneOf (tasksIn rules) d ≡ slot P (jobsOf (tasksIn rules) cells) (getD labels i 0))
     (held : Cells (tasksIn rules) cellCount (d .cells))
     (put : after ≡ overwrite now′ (3 * i) (slotBytes (doneOf (tasksIn rules) d))) (size : length after ≡ length now′) where
   reached-next : Reached rules labels before after (d .cells) (suc i)
@@ -90,7 +90,7 @@ loop-again c =
     let l = d .before .before .before in
     rw (add-one (l .loop .i))
     (reached-next _ _ _ _ _ _ (entry l .pre .1) (l .loop .inv) (d .before .before .loop-test .taken) (d .slot .result) _
-    (d .slot .ensures .0) (d .slot .ensures .1) (c .before .before .before .put-slot .ensures) (c .before .before .before .put-slot .kept .0))
+    (d .slot .ensures .rule) (d .slot .ensures .cells) (c .before .before .before .put-slot .ensures) (c .before .before .before .put-slot .kept .0))
 
 same-length : tie.Need-same-length Inv-loop μ-loop
 same-length c = c .before .loop .inv .size
