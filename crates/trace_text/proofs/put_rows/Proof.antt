@@ -1,0 +1,117 @@
+-- `trace_text::put_rows` meets its contract: each turn writes its line, and the rest of them are still to come.
+-- Assumes nothing.
+use mathlib.Core.Path.{_≡_, refl, sym, ap, _∙_}
+use borrow.Author.Needs.{needs}
+use denote.Ref.{now}
+use Prim.Native.Nat.{ℕ, suc, _+_, _-_, _*_, _≤_, _<_}
+use native.Mathlib.Numerals.{add-one}
+use native.Mathlib.Omega.{arith}
+use lib.ListN.{length, getD}
+use Rattle.words.proofs.Numbers.{AreBytes}
+use Rattle.trace_text.proofs.Rows.{Writing, writing-start, writing-next, writing-end, line-room}
+use Rattle.trace_text.proofs.put_rows.Statement.{statement}
+use Rattle.trace_text.proofs.put_rows.Tie as tie
+
+abbrev Inv-loop : tie.InvT-loop
+Inv-loop out₀ at labels rows end₀ i₀ out end i = Writing out₀ at labels rows out end i
+
+abbrev μ-loop : tie.MeasureT-loop
+μ-loop out₀ at labels rows end₀ i₀ out end i = length labels - i
+
+-- what is known where the loop begins
+module _ (l : tie.At-loop Inv-loop μ-loop) where
+  abbrev entry : tie.Start Inv-loop μ-loop
+  entry = l .before .before .before .before
+
+  labels-bytes : AreBytes (now (entry .args .labels))
+  labels-bytes i = l .before .before .shared-slice-known .given i .fits
+
+  rows-bytes : AreBytes (now (entry .args .rows))
+  rows-bytes i = l .before .shared-slice-known2 .given i .fits
+
+loop-holds : tie.Need-loop-holds Inv-loop μ-loop
+loop-holds c = writing-start _ _ _ _
+
+mul-read-u16 : tie.Need-mul-read-u16 Inv-loop μ-loop
+mul-read-u16 c = search needs
+
+add-read-u16 : tie.Need-add-read-u16 Inv-loop μ-loop
+add-read-u16 c = search needs
+
+read-u16-requires : tie.Need-read-u16-requires Inv-loop μ-loop
+read-u16-requires c κs = search needs
+
+shared-slice-read-wide : tie.Need-shared-slice-read-wide Inv-loop μ-loop
+shared-slice-read-wide c = search needs
+
+wide-requires : tie.Need-wide-requires Inv-loop μ-loop
+wide-requires c κs = search needs
+
+mul-wide : tie.Need-mul-wide Inv-loop μ-loop
+mul-wide c = search needs
+
+shared-slice-read-wide-2 : tie.Need-shared-slice-read-wide-2 Inv-loop μ-loop
+shared-slice-read-wide-2 c = search needs
+
+wide-requires-2 : tie.Need-wide-requires-2 Inv-loop μ-loop
+wide-requires-2 c κs = search needs
+
+cast-put-trace-line : tie.Need-cast-put-trace-line Inv-loop μ-loop
+cast-put-trace-line c = search needs
+
+put-trace-line-requires : tie.Need-put-trace-line-requires Inv-loop μ-loop
+put-trace-line-requires c κs =
+    let r = c .before .before .before .before .before in
+    let l = r .before .before in
+    let p = entry l .pre in
+    rw (c .before .before .wide .ensures, c .wide2 .ensures, r .read-u16 .ensures)
+    (line-room _ _ _ _ _ _ _ (p .0) (p .1) (p .2) (labels-bytes l) (rows-bytes l) (l .loop .inv) (r .before .loop-test .taken))
+
+add-i : tie.Need-add-i Inv-loop μ-loop
+add-i c = search needs
+
+loop-less : tie.Need-loop-less Inv-loop μ-loop
+loop-less c = search needs
+
+loop-again : tie.Need-loop-again Inv-loop μ-loop
+loop-again c =
+    let q = c .before .before in
+    let r = q .before .before .before .before .before .before in
+    let l = r .before .before in
+    let p = entry l .pre in
+    rw (add-one (l .loop .i))
+    (writing-next _ _ _ _ _ _ _ (p .0) (p .1) (p .2) (labels-bytes l) (rows-bytes l) (l .loop .inv) (r .before .loop-test .taken) _ _
+    (rw (q .before .before .before .wide .ensures, q .before .wide2 .ensures, r .read-u16 .ensures) at (q .put-trace-line .ensures))
+    (q .put-trace-line .kept .0))
+
+same-length : tie.Need-same-length Inv-loop μ-loop
+same-length c = c .before .loop .inv .size
+
+returns : tie.Need-returns Inv-loop μ-loop
+returns c =
+    let l = c .before in
+    let p = entry l .pre in
+    writing-end _ _ _ _ _ _ _ (p .0) (p .1) (p .2) (labels-bytes l) (rows-bytes l) (l .loop .inv) (c .loop-test .left)
+
+pub put-rows-spec : {M : Type 1} → statement M
+put-rows-spec =
+    tie.close
+    (tie.spec
+    Inv-loop
+    μ-loop
+    loop-holds
+    mul-read-u16
+    add-read-u16
+    read-u16-requires
+    shared-slice-read-wide
+    wide-requires
+    mul-wide
+    shared-slice-read-wide-2
+    wide-requires-2
+    cast-put-trace-line
+    put-trace-line-requires
+    add-i
+    loop-less
+    loop-again
+    same-length
+    returns)

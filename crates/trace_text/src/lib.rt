@@ -1,0 +1,39 @@
+// The trace as text: the table of a plan's policy over labels, or the line of a refusal.
+ghost use mathlib.Core.Path.{_≡_};
+ghost use Prim.Native.Nat.{_+_, _*_, _≤_};
+ghost use lib.ListN.{length};
+ghost use Rattle.model.specs.Limits.{maxLabels, traceRoom};
+ghost use Rattle.model.specs.Text.{traceText};
+ghost use Rattle.model.specs.Trace as model-trace;
+ghost use Rattle.text.specs.Put.{Put};
+ghost use Rattle.trace_text.specs.Rows.{lineRoom, textRoom, rowLines};
+use tracer::Answer;
+
+// Writes the line of each label from a place on, and answers the place after them.
+fn put_rows(out: &mut [u8], at: usize, labels: &[u8], rows: &[u8]) -> usize
+    requires { ⌜ (length (now labels) ≤ maxLabels) × (3 * length (now labels) ≤ length (now rows)) × (at + lineRoom * length (now labels) ≤ length (now out)) ⌝ }
+    ensures { λ r. ⌜ Put (now (out .entry)) (now (out .exit)) at (rowLines 0 (now (labels .entry)) (now (rows .entry))) r ⌝ }
+{
+    let mut end = at;
+    let mut i = 0;
+    while i < labels.len() {
+        let gain = words::read_u16(rows, 3 * i + 1);
+        end = text::put_trace_line(
+            out,
+            end,
+            i as u64,
+            wide(labels[i]),
+            wide(rows[3 * i]),
+            gain as u64,
+        );
+        i += 1;
+    }
+    end
+}
+
+// x, at a wider type.
+fn wide(x: u8) -> u64
+    ensures { λ r. ⌜ r ≡ x ⌝ }
+{
+    x as u64
+}
