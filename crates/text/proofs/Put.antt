@@ -6,6 +6,8 @@ use Prim.Native.Nat.{ℕ, _+_, _≤_}
 use native.Mathlib.Nat.{add-assoc}
 use native.Mathlib.Omega.{arith}
 use lib.ListN.{length, length-append}
+use lib.Seq.{length-take-le}
+use Rattle.io.specs.Counts.{Counts}
 use Rattle.model.specs.Bytes.{overwrite}
 use Rattle.words.proofs.Memory.{overwrite-join}
 use Rattle.text.specs.Put.{Put}
@@ -17,3 +19,7 @@ put-join m m₁ m₂ at r r₂ xs ys fits a b = record {
   bytes = b .bytes ∙ ap₂ (λ (l : List ℕ) (i : ℕ). overwrite l i ys) (a .bytes) (a .next) ∙ overwrite-join m at xs ys fits;
   next = b .next ∙ omega (arith, a .next, length-append xs ys);
 }
+
+-- so many bytes of a list
+pub counted : (r : ℕ) (l : List ℕ) → r ≤ length l → Counts r l
+counted r l h = (h, sym (length-take-le r l h))

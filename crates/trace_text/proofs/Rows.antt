@@ -48,7 +48,8 @@ gain-fits rows b h =
 drop-bytes : (n : ℕ) (l : List ℕ) → AreBytes l → AreBytes (drop n l)
 drop-bytes n l b i = rw (getD-drop n l i 0) (b (n + i))
 
-rows-fit : (t : ℕ) (ls rows : List ℕ) → t + length ls ≤ maxLabels → AreBytes ls → AreBytes rows → 3 * length ls ≤ length rows →
+-- the lines fit
+pub rows-fit : (t : ℕ) (ls rows : List ℕ) → t + length ls ≤ maxLabels → AreBytes ls → AreBytes rows → 3 * length ls ≤ length rows →
     length (rowLines t ls rows) ≤ lineRoom * length ls
 rows-fit t [] rows ht bl br h = omega arith
 rows-fit t (l ∷ ls) rows ht bl br h =

@@ -1,9 +1,11 @@
 // The trace as text: the table of a plan's policy over labels, or the line of a refusal.
 ghost use mathlib.Core.Path.{_≡_};
+ghost use mathlib.Core.List.{_++_};
 ghost use Prim.Native.Nat.{_+_, _*_, _≤_};
 ghost use lib.ListN.{length};
+ghost use Rattle.io.specs.Counts.{Counts};
 ghost use Rattle.model.specs.Limits.{maxLabels, traceRoom};
-ghost use Rattle.model.specs.Text.{traceText};
+ghost use Rattle.model.specs.Text.{traceHeader, traceText};
 ghost use Rattle.model.specs.Trace as model-trace;
 ghost use Rattle.text.specs.Put.{Put};
 ghost use Rattle.trace_text.specs.Rows.{lineRoom, textRoom, rowLines};
@@ -36,4 +38,35 @@ fn wide(x: u8) -> u64
     ensures { λ r. ⌜ r ≡ x ⌝ }
 {
     x as u64
+}
+
+// Room for the bytes of a trace.
+fn rows_room() -> [u8; 12288]
+    ensures { λ r. ⌜ traceRoom ≡ length r ⌝ }
+{
+    [0; 12288]
+}
+
+// Writes the lines of the labels under the header.
+fn put_table(out: &mut [u8], labels: &[u8], rows: &[u8]) -> usize
+    requires { ⌜ (length (now labels) ≤ maxLabels) × (3 * length (now labels) ≤ length (now rows)) × (textRoom ≤ length (now out)) ⌝ }
+    ensures { λ r. ⌜ Put (now (out .entry)) (now (out .exit)) 0 (traceHeader ++ rowLines 0 (now (labels .entry)) (now (rows .entry))) r ⌝ }
+    ensures { λ r. ⌜ r ≤ textRoom ⌝ }
+{
+    let at = text::put_bytes(out, 0, b"slot label run gain\n");
+    put_rows(out, at, labels, rows)
+}
+
+// Writes the trace of a plan's policy over labels, or the line of a refusal.
+pub fn put_trace(out: &mut [u8], plan: &[u8], labels: &[u8]) -> usize
+    requires { ⌜ textRoom ≤ length (now out) ⌝ }
+    ensures { λ r. ⌜ Put (now (out .entry)) (now (out .exit)) 0 (traceText (now (labels .entry)) (model-trace.trace (now (plan .entry)) (now (labels .entry)) traceRoom)) r ⌝ }
+    ensures { λ r. ⌜ Counts r (now (out .exit)) ⌝ }
+{
+    let mut rows = rows_room();
+    let answer = tracer::trace(plan, labels, &mut rows);
+    match answer {
+        Answer::Refused(r) => text::put_refusal(out, r.number()),
+        Answer::Written(_) => put_table(out, labels, &rows),
+    }
 }

@@ -2,16 +2,14 @@
 -- Assumes nothing.
 use mathlib.Core.Path.{_≡_, refl, sym, ap, _∙_, subst}
 use mathlib.Core.List.{List}
-use Prim.Native.Nat.{ℕ, _≤_}
+use Prim.Native.Nat.{ℕ}
 use native.Mathlib.Omega.{arith}
-use lib.ListN.{length, take}
-use lib.Seq.{length-take-le}
-use Rattle.io.specs.Counts.{Counts}
 use Rattle.model.specs.Plan.{PlanAnswer, Plan, readPlan}
 use Rattle.model.specs.Text.{refusedLine}
 use Rattle.plan.specs.declared.Outcome.{Outcome}
 use Rattle.plan.specs.View.{answerWith, planOf}
 use Rattle.text.specs.Put.{Put}
+use Rattle.text.proofs.Put.{counted}
 use Rattle.text.proofs.Decimal.{refused-length, decimal-length}
 use Rattle.plan_cases.specs.Lines.{planLine}
 use borrow.Author.Needs.{needs}
@@ -23,9 +21,6 @@ as-line : (P : Plan) (o : Outcome) {m n : List ℕ} {r : ℕ} {u : Outcome} {a :
     planLine (answerWith u P) ≡ bs → Put m n 0 bs r → Put m n 0 (planLine a) r
 as-line P o {m} {n} {r} e k l p =
     subst (λ (bs : List ℕ). Put m n 0 bs r) (sym (sym (ap planLine e) ∙ ap (λ (v : Outcome). planLine (answerWith v P)) k ∙ l)) p
-
-counted : (r : ℕ) (l : List ℕ) → r ≤ length l → Counts r l
-counted r l h = (h, sym (length-take-le r l h))
 
 read-requires : tie.Need-read-requires
 read-requires c κs = search needs
