@@ -1,12 +1,12 @@
 // Reads each plan of plans.bin, two bytes of length and then the plan, and writes a line for it:
 // `sound`, or the line of its refusal.
 ghost use mathlib.Core.Path.{_≡_};
-ghost use Prim.Native.Nat.{_+_, _≤_};
+ghost use Prim.Native.Nat.{_≤_};
 ghost use lib.ListN.{length};
 ghost use Rattle.io.specs.Counts.{Counts};
 ghost use Rattle.model.specs.Plan.{readPlan};
 ghost use Rattle.text.specs.Put.{Put};
-ghost use Rattle.plan_cases.specs.Lines.{planLine, planEnd};
+ghost use Rattle.plan_cases.specs.Lines.{planLine};
 use libc::STDOUT_FILENO;
 use plan::Outcome;
 
@@ -24,23 +24,6 @@ fn put_line(out: &mut [u8], s: &[u8]) -> usize
     }
 }
 
-// Where the plan at a place ends, or 0 where it is cut off.
-fn plan_end(s: &[u8], at: usize) -> usize
-    requires { ⌜ at ≤ length (now s) ⌝ }
-    ensures { λ r. ⌜ r ≡ planEnd (now (s .entry)) at ⌝ }
-    ensures { λ r. ⌜ ((r ≡ 0 → ⊥) → (at + 2 ≤ r) × (r ≤ length (now (s .entry)))) ⌝ }
-{
-    if s.len() - at < 2 {
-        return 0;
-    }
-    let n = words::read_u16(s, at) as usize;
-    let body = at + 2;
-    if s.len() - body < n {
-        return 0;
-    }
-    body + n
-}
-
 fn main() {
     let mut space = io::large_buffer();
     let n = io::read_full(os::open_read(b"plans.bin"), &mut space);
@@ -48,7 +31,7 @@ fn main() {
     let mut line = [0u8; 32];
     let mut at = 0;
     while at < plans.len() {
-        let end = plan_end(plans, at);
+        let end = records::end_of(plans, at);
         if end == 0 {
             return;
         }

@@ -6,7 +6,7 @@ use libc::STDOUT_FILENO;
 fn main() {
     let mut plan = io::large_buffer();
     let mut labels = io::large_buffer();
-    let mut text = [0u8; 81920];
+    let mut text = trace_text::text_room();
     let plan_length = io::read_full(os::open_read(b"plan.bin"), &mut plan);
     let label_count = io::read_full(os::open_read(b"labels.bin"), &mut labels);
     let n = trace_text::put_trace(&mut text, &plan[..plan_length], &labels[..label_count]);

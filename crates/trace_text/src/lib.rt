@@ -47,6 +47,13 @@ fn rows_room() -> [u8; 12288]
     [0; 12288]
 }
 
+// Room for the text of a trace.
+pub fn text_room() -> [u8; 81920]
+    ensures { λ r. ⌜ 81920 ≡ length r ⌝ }
+{
+    [0; 81920]
+}
+
 // Writes the lines of the labels under the header.
 fn put_table(out: &mut [u8], labels: &[u8], rows: &[u8]) -> usize
     requires { ⌜ (length (now labels) ≤ maxLabels) × (3 * length (now labels) ≤ length (now rows)) × (textRoom ≤ length (now out)) ⌝ }

@@ -16,9 +16,9 @@ abbrev μ-loop : tie.MeasureT-loop
 
 -- the plan at the turn's place is whole
 whole : (c : tie.Else1 Inv-loop μ-loop) →
-    (c .before .before .before .loop .at + 2 ≤ c .before .plan-end .result)
-    × (c .before .plan-end .result ≤ length (take (c .before .before .before .before .before .before .read-full .result) (c .before .before .before .before .before .before .read-full .last .1 .0)))
-whole c = c .before .plan-end .ensures .1 (c .if1 .left)
+    (c .before .before .before .loop .at + 2 ≤ c .before .end-of .result)
+    × (c .before .end-of .result ≤ length (take (c .before .before .before .before .before .before .read-full .result) (c .before .before .before .before .before .before .read-full .last .1 .0)))
+whole c = c .before .end-of .ensures .1 (c .if1 .left)
 
 large-buffer-requires : tie.Need-large-buffer-requires Inv-loop μ-loop
 large-buffer-requires c κs = search needs
@@ -44,8 +44,8 @@ slice-aggregate-plans c = search needs
 loop-holds : tie.Need-loop-holds Inv-loop μ-loop
 loop-holds c = search needs
 
-plan-end-requires : tie.Need-plan-end-requires Inv-loop μ-loop
-plan-end-requires c κs = search needs
+end-of-requires : tie.Need-end-of-requires Inv-loop μ-loop
+end-of-requires c κs = search needs
 
 returns : tie.Need-returns Inv-loop μ-loop
 returns c = search needs
@@ -100,7 +100,7 @@ main-spec =
     array-share-prefix-space
     slice-aggregate-plans
     loop-holds
-    plan-end-requires
+    end-of-requires
     returns
     slice-aggregate-put-line
     add-put-line

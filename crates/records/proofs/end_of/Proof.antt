@@ -1,4 +1,4 @@
--- `plan_cases::plan_end` meets its contract: its tests are the definition's.
+-- `records::end_of` meets its contract: its tests are the definition's.
 -- Assumes nothing.
 use mathlib.Core.Path.{_≡_, refl, sym, ap, _∙_}
 use mathlib.Core.Bool.{Bool, true, false, cond}
@@ -11,19 +11,19 @@ use native.Mathlib.Omega.{arith}
 use lib.Dec.{leb}
 use lib.ListN.{length}
 use Rattle.model.specs.Bytes.{number, part}
-use Rattle.plan_cases.specs.Lines.{planEnd}
-use Rattle.plan_cases.proofs.plan_end.Statement.{statement}
-use Rattle.plan_cases.proofs.plan_end.Tie as tie
+use Rattle.records.specs.Records.{recordEnd}
+use Rattle.records.proofs.end_of.Statement.{statement}
+use Rattle.records.proofs.end_of.Tie as tie
 
 -- the definition by its tests
 module _ (s : List ℕ) (at : ℕ) where
-  short : length s < at + 2 → planEnd s at ≡ 0
+  short : length s < at + 2 → recordEnd s at ≡ 0
   short h = ap (λ (b : Bool). cond b (cond (leb (at + 2 + number (part s at 2)) (length s)) (at + 2 + number (part s at 2)) 0) 0) (lt-leb _ _ h)
 
-  cut : at + 2 ≤ length s → length s < at + 2 + number (part s at 2) → planEnd s at ≡ 0
+  cut : at + 2 ≤ length s → length s < at + 2 + number (part s at 2) → recordEnd s at ≡ 0
   cut h k = (λ i. cond (le-leb _ _ h i) (cond (lt-leb _ _ k i) (at + 2 + number (part s at 2)) 0) 0)
 
-  whole : at + 2 ≤ length s → at + 2 + number (part s at 2) ≤ length s → planEnd s at ≡ at + 2 + number (part s at 2)
+  whole : at + 2 ≤ length s → at + 2 + number (part s at 2) ≤ length s → recordEnd s at ≡ at + 2 + number (part s at 2)
   whole h k = (λ i. cond (le-leb _ _ h i) (cond (le-leb _ _ k i) (at + 2 + number (part s at 2)) 0) 0)
 
 sub-if1 : tie.Need-sub-if1
@@ -60,8 +60,8 @@ returns-3 c =
     let n = c .before .read-u16 .ensures in
     (ap (λ (k : ℕ). a .at + 2 + k) n ∙ sym (whole (now (a .s)) (a .at) (omega arith) (omega (arith, n))), λ k. omega arith)
 
-pub plan-end-spec : {M : Type 1} → statement M
-plan-end-spec =
+pub end-of-spec : {M : Type 1} → statement M
+end-of-spec =
     tie.close
     (tie.spec
     sub-if1
