@@ -1,19 +1,17 @@
 -- Laws of the reading of plan bytes: one command at a time, and what a command without a fault is.
 -- Assumes nothing.
-use mathlib.Core.Path.{_≡_, refl, sym, ap, _∙_, subst}
-use mathlib.Core.Bool.{Bool, true, false, cond, not, _&&_, _||_, false≢true}
+use mathlib.Core.Path.{_≡_, refl, ap, _∙_}
+use mathlib.Core.Bool.{Bool, true, false, cond, _&&_, _||_, false≢true}
 use mathlib.Core.List.{List, [], _∷_, _++_}
-use Prim.Native.Nat.{ℕ, zero, suc, _+_, _-_, _^_, _≤_, _<_, suc-le-suc}
-use native.Mathlib.Nat.{le-of-suc-le-suc, not-suc-le-zero}
-use native.Mathlib.Numerals.{add-one}
+use Prim.Native.Nat.{ℕ, zero, suc, _+_, _-_, _^_, _≤_, _<_}
+use native.Mathlib.Nat.{not-suc-le-zero}
 use native.Mathlib.Omega.{arith}
 use borrow.Author.Tests.{ltb-true, ltb-false, leb-true}
-use lib.Dec.{T, eqb, ltb, leb}
+use lib.Dec.{eqb, ltb, leb}
 use lib.ListN.{length, getD, drop, length-drop}
 use lib.Seq.{drop-cons, drop-drop, getD-drop}
-use Rattle.model.specs.Plan.{Arc, Reading, PlanAnswer, readCommands, readFrom, refusedOr, firstFault, fault, after, width, atEnd, mayFollow, inRange, arcInRange, pairRises, rising, pairBelow, unknown, isZero}
+use Rattle.model.specs.Plan.{Arc, Reading, readCommands, readFrom, refusedOr, firstFault, fault, after, width, atEnd, mayFollow, inRange, arcInRange, pairRises, rising, pairBelow, unknown, isZero}
 use Rattle.model.specs.Limits.{maxTasks, maxStates}
-use Rattle.model.specs.Refusals.{bytesEnd, unknownCommand, outOfPlace, outOfRange}
 
 pub both : (a b : Bool) → (a && b) ≡ true → (a ≡ true) × (b ≡ true)
 both true b h = (refl, h)

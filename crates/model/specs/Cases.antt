@@ -8,7 +8,7 @@ use Rattle.model.specs.Limits.{workRoom, traceRoom}
 use Rattle.model.specs.Lists.{flatMap, upFrom}
 use Rattle.model.specs.Bytes.{number, signed}
 use Rattle.model.specs.Plan.{readPlan, readFrom, firstFault, fault, after, width, mayFollow, inRange, taskInRange, arcInRange}
-use Rattle.model.specs.Slot.{Done, slot, ready, first, key}
+use Rattle.model.specs.Slot.{slot, ready, first, key}
 use Rattle.model.specs.Masks.{masksOf}
 use Rattle.model.specs.Graph.{choices, edgeOf, edgesAt, edges, explored, nodes, tooLarge}
 use Rattle.model.specs.Certificate.{Certificate, readCertificate, readPotentials, readSteps}

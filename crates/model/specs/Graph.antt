@@ -10,7 +10,7 @@ use Rattle.model.specs.Limits.{maxNodes}
 use Rattle.model.specs.Lists.{flatMap, upFrom}
 use Rattle.model.specs.Masks.{masksOf}
 use Rattle.model.specs.Plan.{Task, Plan, nextIn}
-use Rattle.model.specs.Slot.{Job, Done, slot}
+use Rattle.model.specs.Slot.{Job, slot}
 
 -- "the policy's jobs .., the pattern of taken slots (bit j: the slot j from now) and the automaton state"; jobs stand in release order
 pub record Node : Type 0 where

@@ -1,14 +1,14 @@
 -- Runs, the policy's gain over a run, and schedules.
 use mathlib.Core.Path.{_≡_}
-use Prim.Native.Nat.{ℕ, zero, suc, _+_, _-_, _≤_, _<_}
+use Prim.Native.Nat.{ℕ, _+_, _-_, _≤_, _<_}
 use mathlib.Core.Bool.{Bool, true, false, cond}
 use mathlib.Core.List.{List, [], _∷_}
-use mathlib.Core.Option.{Option, none, some}
+use mathlib.Core.Option.{none, some}
 use lib.Dec.{T}
 use lib.ListN.{length, getD}
 use Rattle.model.specs.Lists.{bit, one, sum}
-use Rattle.model.specs.Plan.{Task, Plan, nextIn}
-use Rattle.model.specs.Slot.{Job, Done, slot, taskOf}
+use Rattle.model.specs.Plan.{Plan, nextIn}
+use Rattle.model.specs.Slot.{Job, slot, taskOf}
 
 -- "each label finds the state .. that the label before it left", from a state
 abbrev pub admitsFrom : Plan → List ℕ → ℕ → Bool

@@ -1,23 +1,22 @@
 -- A turn of the reader: what holds before each command, and how a command keeps it.
 -- Assumes nothing.
 use mathlib.Core.Path.{_≡_, refl, sym, ap, ap₂, _∙_, subst}
-use mathlib.Core.Bool.{Bool, true, false, cond}
-use mathlib.Core.List.{List, [], _∷_, _++_}
-use Prim.Native.Nat.{ℕ, zero, suc, _+_, _-_, _*_, _^_, _≤_, _<_}
+use mathlib.Core.Bool.{true}
+use mathlib.Core.List.{List, [], _++_}
+use Prim.Native.Nat.{ℕ, zero, suc, _+_, _-_, _^_, _≤_, _<_}
 use native.Mathlib.Nat.{lt-of-lt-of-le}
 use native.Mathlib.Omega.{arith}
 use borrow.Author.Tests.{leb-true}
-use lib.Dec.{leb, eqb}
 use lib.ListN.{length, getD, drop, replicate, length-replicate, drop-of-length-le}
 use lib.Pow.{pow-mono}
-use Rattle.model.specs.Limits.{maxTasks, maxStates}
+use Rattle.model.specs.Limits.{maxTasks}
 use Rattle.model.specs.Plan as model
 use Rattle.model.proofs.Plan.{Passes, fault-none, readFrom-at, readFrom-nil, task-follows, states-ranged, arc-ranged}
 use Rattle.plan.specs.declared.Reading.{Reading}
 use Rattle.plan.specs.declared.Fault.{Fault}
 use Rattle.plan.specs.declared.Fault.the-variants.{BytesEnd, UnknownCommand, OutOfPlace, OutOfRange}
 use Rattle.plan.specs.declared.Outcome.{Outcome}
-use Rattle.plan.specs.declared.Outcome.the-variants.{Sound, Faulty}
+use Rattle.plan.specs.declared.Outcome.the-variants.{Faulty}
 use Rattle.plan.specs.View.{faultNumber, checkNumber, answerWith, readingOf, nothingReadWith, arcsIn, arcsBelow, arcAt, labelCount, pairCount, Within, Holds, Readable, ReadableArc, Reads}
 use Rattle.plan.proofs.View.{task-count, least-rises}
 

@@ -2,8 +2,7 @@
 -- Assumes nothing.
 use mathlib.Core.Path.{_≡_, refl, sym, ap, ap₂, _∙_}
 use mathlib.Core.Bool.{Bool, true, false, cond, _&&_, _||_, and-false}
-use mathlib.Core.List.{List, [], _∷_, _++_, map, append-nil}
-use mathlib.Core.Logic.{_≢_}
+use mathlib.Core.List.{List, [], _∷_, _++_, append-nil}
 use mathlib.Core.Option.{Option, none, some}
 use Prim.Native.Nat.{ℕ, zero, suc, _+_, _-_, _*_, _/_, _%_, _≤_, _<_}
 use native.Mathlib.Nat.{add-zero, add-suc, add-sub-of-le, suc-inj, suc-ne-zero}
@@ -12,7 +11,7 @@ use borrow.Author.Tests.{lt-ltb, le-ltb, le-leb, lt-leb, eq-eqb, ne-eqb, ltb-tru
 use lib.Dec.{leb, ltb, eqb, leb·zero}
 use lib.ListN.{length, getD, take, set, length-map, length-set}
 use lib.Seq.{length-take-le, getD-set-same, getD-set-other}
-use Rattle.model.specs.Limits.{maxTasks, maxStates}
+use Rattle.model.specs.Limits.{maxStates}
 use Rattle.model.specs.Plan.{Arc, isArc, nextIn, rising, pairBelow}
 use Rattle.model.proofs.Plan.{rising-last}
 use Rattle.plan.specs.declared.Reading.{Reading}

@@ -1,9 +1,9 @@
 // The plan reader: plan bytes in, the plan as a struct by value out, or the fault.
 ghost use mathlib.Core.Path.{_≡_};
-ghost use Prim.Native.Nat.{ℕ, _+_, _*_, _^_, _<_, _≤_};
+ghost use Prim.Native.Nat.{_+_, _*_, _^_, _<_, _≤_};
 ghost use mathlib.Core.List.{List};
-ghost use lib.ListN.{length, getD, replicate};
-ghost use Rattle.model.specs.Plan.{Arc, nextIn, width, mayFollow, between, taskInRange, arcInRange, inRange, pairRises, firstFault, fault, after, readPlan};
+ghost use lib.ListN.{getD, replicate};
+ghost use Rattle.model.specs.Plan.{Arc, nextIn, width, mayFollow, between, taskInRange, arcInRange, inRange, pairRises, firstFault, fault, readPlan};
 ghost use Rattle.model.specs.Limits.{maxTasks, maxStates};
 ghost use Rattle.plan.specs.View.{faultNumber, checkNumber, answerOf, answerWith, planRead, readingOf, nothingReadWith, arcsIn, nextOf, labelCount, pairCount, Sized, Within, Least, Holds, Readable, ReadableArc, Reads, ReadsAside};
 

@@ -1,6 +1,5 @@
 // Reads each plan of plans.bin, two bytes of length and then the plan, and writes a line for it:
 // `sound`, or the line of its refusal.
-ghost use mathlib.Core.Path.{_≡_};
 ghost use Prim.Native.Nat.{_≤_};
 ghost use lib.ListN.{length};
 ghost use Rattle.io.specs.Counts.{Counts};

@@ -1,8 +1,6 @@
 // Numbers and lines as text, written into lent bytes.
-ghost use mathlib.Core.Path.{_≡_};
 ghost use Prim.Native.Nat.{_+_, _≤_};
 ghost use lib.ListN.{length};
-ghost use Rattle.model.specs.Bytes.{overwrite};
 ghost use Rattle.model.specs.Text.{decimal, field, refusedLine, traceLine};
 ghost use Rattle.text.specs.Put.{Put};
 

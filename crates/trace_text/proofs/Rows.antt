@@ -1,16 +1,16 @@
 -- Laws of the lines of a trace: how long they are, and one line after another.
 -- Assumes nothing.
-use mathlib.Core.Path.{_≡_, refl, sym, ap, ap₂, _∙_, subst}
+use mathlib.Core.Path.{_≡_, refl, sym, ap, _∙_, subst}
 use mathlib.Core.List.{List, [], _∷_, _++_}
-use Prim.Native.Nat.{ℕ, zero, suc, _+_, _*_, _^_, _≤_, _<_}
+use Prim.Native.Nat.{ℕ, suc, _+_, _*_, _^_, _≤_, _<_}
 use native.Mathlib.Nat.{add-zero}
 use native.Mathlib.Omega.{arith}
 use lib.ListN.{length, getD, take, drop, length-append, length-drop, drop-of-length-le}
 use lib.Seq.{drop-cons, drop-drop, getD-drop}
 use Rattle.model.specs.Bytes.{number, part, overwrite}
 use Rattle.model.specs.Limits.{maxLabels}
-use Rattle.model.specs.Text.{decimal, field, traceLine}
-use Rattle.words.proofs.Memory.{part-length, overwrite-none, overwrite-join, overwrite-length}
+use Rattle.model.specs.Text.{traceLine}
+use Rattle.words.proofs.Memory.{part-length, overwrite-none, overwrite-join}
 use Rattle.words.proofs.Numbers.{AreBytes, number-lt}
 use Rattle.words.proofs.Words.{part-bytes}
 use Rattle.text.specs.Put.{Put}

@@ -1,6 +1,6 @@
 -- The trace's answer by its tests, and what a sound plan gives the code.
 -- Assumes nothing.
-use mathlib.Core.Path.{_≡_, refl, sym, ap, _∙_, subst}
+use mathlib.Core.Path.{_≡_, sym, ap, _∙_, subst}
 use mathlib.Core.Bool.{Bool, true, false, cond}
 use mathlib.Core.List.{List, []}
 use mathlib.Core.Option.{some}
@@ -11,14 +11,13 @@ use lib.ListN.{length}
 use Rattle.model.specs.Bytes.{overwrite}
 use Rattle.model.specs.Limits.{maxLabels, maxStates, traceRoom}
 use Rattle.model.specs.Refusals.{shortMemory, tooManyLabels, notAdmitted}
-use Rattle.model.specs.Plan.{Plan, PlanAnswer, faulty, sound, readPlan, nextIn, IsSound}
+use Rattle.model.specs.Plan.{Plan, PlanAnswer, readPlan, nextIn, IsSound}
 use Rattle.model.specs.Schedule.{admits}
-use Rattle.model.specs.Slot.{Done}
 use Rattle.model.specs.Trace.{TraceAnswer, TraceResult, traced, slots, traceRun, tracePlan, trace, traceBytes, resultOf, outputAfter}
-use Rattle.theory.proofs.Sound.{PlanSound, sound-plan, nextIn-arc}
+use Rattle.theory.proofs.Sound.{sound-plan, nextIn-arc}
 use Rattle.theory.proofs.Schedules.{task-sound}
 use Rattle.plan.specs.View.{arcsIn}
-use Rattle.policy.specs.View.{Tasks, TasksInRange}
+use Rattle.policy.specs.View.{TasksInRange}
 use Rattle.tracer.specs.declared.Refusal.{Refusal}
 use Rattle.tracer.specs.declared.Answer.{Answer}
 use Rattle.tracer.specs.declared.Answer.the-variants.{Refused, Written}

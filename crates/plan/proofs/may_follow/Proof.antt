@@ -1,6 +1,6 @@
 -- `plan::may_follow` meets its contract: the arms are the definition's tests.
 -- Assumes nothing.
-use borrow.Author.Tests.{eq-eqb, ne-eqb}
+use borrow.Author.Tests.{ne-eqb}
 use Rattle.model.specs.Plan.{mayFollow}
 use Rattle.plan.proofs.View.{task-count}
 use Rattle.plan.proofs.may_follow.Statement.{statement}

@@ -1,8 +1,8 @@
 -- `plan::pair_rises` meets its contract: an arc's pair is compared with the least that rises.
 -- Assumes nothing.
-use mathlib.Core.Path.{sym, _∙_}
+use mathlib.Core.Path.{sym}
 use borrow.Author.Needs.{needs}
-use borrow.Author.Tests.{eq-eqb, ne-eqb}
+use borrow.Author.Tests.{ne-eqb}
 use Rattle.plan.proofs.pair_rises.Statement.{statement}
 use Rattle.plan.proofs.pair_rises.Tie as tie
 

@@ -7,9 +7,9 @@ use denote.Ref.{now}
 use Prim.Native.Nat.{ℕ, _+_, _-_, _<_}
 use native.Mathlib.Omega.{arith}
 use lib.ListN.{length, getD}
-use Rattle.model.specs.Plan.{width, fault}
+use Rattle.model.specs.Plan.{fault}
 use Rattle.model.proofs.Plan.{width-pos}
-use Rattle.plan.specs.View.{checkNumber, readingOf, arcsIn, Reads}
+use Rattle.plan.specs.View.{checkNumber, readingOf, arcsIn}
 use Rattle.plan.proofs.View.{least-rises}
 use Rattle.plan.proofs.Turn.{Reached, faultHere, reached-start, reached-end, reached-next, readable, readable-arc, refused}
 use Rattle.plan.proofs.read.Statement.{statement}

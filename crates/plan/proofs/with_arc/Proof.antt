@@ -1,15 +1,15 @@
 -- `plan::with_arc` meets its contract: the table's arcs with this one at their end are the definition's.
 -- Assumes nothing.
-use mathlib.Core.Path.{_≡_, refl, sym, ap, _∙_, subst}
+use mathlib.Core.Path.{_≡_, ap, _∙_}
 use mathlib.Core.List.{List, [], _∷_, _++_}
 use borrow.Author.Needs.{needs}
-use Prim.Native.Nat.{ℕ, suc, _+_, _*_, _/_, _%_, _<_}
+use Prim.Native.Nat.{ℕ, _+_, _*_, _/_, _%_, _<_}
 use native.Mathlib.Numerals.{add-one}
 use native.Mathlib.Omega.{arith}
 use lib.ListN.{set}
 use Rattle.model.specs.Plan.{Arc, after}
 use Rattle.plan.specs.declared.Reading.{Reading}
-use Rattle.plan.specs.View.{tasksOf, arcsIn, labelCount, pairCount, ReadableArc, Reads, Holds}
+use Rattle.plan.specs.View.{tasksOf, arcsIn, labelCount, pairCount, ReadableArc, Reads}
 use Rattle.plan.proofs.View.{arcOf, arcs-add, holds-add}
 use Rattle.plan.proofs.with_arc.Statement.{statement}
 use Rattle.plan.proofs.with_arc.Tie as tie

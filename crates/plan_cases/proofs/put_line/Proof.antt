@@ -4,7 +4,7 @@ use mathlib.Core.Path.{_≡_, refl, sym, ap, _∙_, subst}
 use mathlib.Core.List.{List}
 use Prim.Native.Nat.{ℕ}
 use native.Mathlib.Omega.{arith}
-use Rattle.model.specs.Plan.{PlanAnswer, Plan, readPlan}
+use Rattle.model.specs.Plan.{PlanAnswer, Plan}
 use Rattle.model.specs.Text.{refusedLine}
 use Rattle.plan.specs.declared.Outcome.{Outcome}
 use Rattle.plan.specs.View.{answerWith, planOf}

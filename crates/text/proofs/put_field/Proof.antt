@@ -1,8 +1,6 @@
 -- `text::put_field` meets its contract: a number, then a space.
 -- Assumes nothing.
 use native.Mathlib.Omega.{arith}
-use lib.ListN.{length-append}
-use Rattle.model.specs.Text.{decimal, space}
 use Rattle.text.proofs.Put.{put-join}
 use Rattle.text.proofs.Decimal.{field-length}
 use borrow.Author.Needs.{needs}

@@ -1,12 +1,10 @@
 -- `trace_text::put_rows` meets its contract: each turn writes its line, and the rest of them are still to come.
 -- Assumes nothing.
-use mathlib.Core.Path.{_≡_, refl, sym, ap, _∙_}
 use borrow.Author.Needs.{needs}
 use denote.Ref.{now}
-use Prim.Native.Nat.{ℕ, suc, _+_, _-_, _*_, _≤_, _<_}
+use Prim.Native.Nat.{_-_}
 use native.Mathlib.Numerals.{add-one}
-use native.Mathlib.Omega.{arith}
-use lib.ListN.{length, getD}
+use lib.ListN.{length}
 use Rattle.words.proofs.Numbers.{AreBytes}
 use Rattle.trace_text.proofs.Rows.{Writing, writing-start, writing-next, writing-end, line-room}
 use Rattle.trace_text.proofs.put_rows.Statement.{statement}

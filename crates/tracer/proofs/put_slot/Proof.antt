@@ -6,7 +6,7 @@ use borrow.Author.Needs.{needs}
 use Prim.Native.Nat.{ℕ, _+_, _≤_}
 use native.Mathlib.Omega.{arith}
 use lib.ListN.{length, set, length-set}
-use Rattle.model.specs.Bytes.{bytes, overwrite}
+use Rattle.model.specs.Bytes.{overwrite}
 use Rattle.words.proofs.Memory.{overwrite-one, overwrite-join}
 use Rattle.words.proofs.Numbers.{bytes-length}
 use Rattle.tracer.proofs.put_slot.Statement.{statement}

@@ -1,16 +1,11 @@
 -- `tracer::trace` meets its contract: short output first, then the plan's faults, then the labels.
 -- Assumes nothing.
-use mathlib.Core.Path.{_≡_, sym, ap, _∙_, subst}
-use mathlib.Core.List.{List}
-use Prim.Native.Nat.{ℕ}
+use mathlib.Core.Path.{_≡_, sym, ap, _∙_}
 use denote.Ref.{now}
 use native.Mathlib.Omega.{arith}
 use Rattle.model.specs.Plan.{Plan, PlanAnswer}
-use Rattle.model.specs.Trace.{TraceAnswer}
 use Rattle.plan.specs.declared.Outcome.{Outcome}
 use Rattle.plan.specs.View.{planOf, answerWith}
-use Rattle.tracer.specs.declared.Answer.{Answer}
-use Rattle.tracer.specs.Promise.{Told}
 use Rattle.tracer.proofs.Answers.{told-by, told-refusal, short, by-plan}
 use borrow.Author.Needs.{needs}
 use Rattle.tracer.proofs.trace.Statement.{statement}

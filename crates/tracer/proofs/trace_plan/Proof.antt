@@ -3,7 +3,6 @@
 use mathlib.Core.Path.{refl, sym, _∙_}
 use denote.Ref.{now}
 use borrow.Author.Tests.{not-true, not-false}
-use native.Mathlib.Omega.{arith}
 use Rattle.plan.specs.View.{planOf}
 use Rattle.tracer.proofs.Answers.{told-refusal, told-trace, too-many, not-admitted, all-admitted, states-fit, tasks-range}
 use borrow.Author.Needs.{needs}

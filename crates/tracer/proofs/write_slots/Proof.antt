@@ -1,16 +1,15 @@
 -- `tracer::write_slots` meets its contract: each turn writes its slot, and the rest of the trace is still to come.
 -- Assumes nothing.
-use mathlib.Core.Path.{_≡_, refl, sym, ap, _∙_, subst}
-use mathlib.Core.List.{List, [], _∷_}
+use mathlib.Core.Path.{_≡_, refl, _∙_}
+use mathlib.Core.List.{List, []}
 use borrow.Author.Needs.{needs}
-use denote.Ref.{now}
-use Prim.Native.Nat.{ℕ, suc, _+_, _-_, _*_, _≤_, _<_}
+use Prim.Native.Nat.{ℕ, suc, _-_, _*_, _≤_, _<_}
 use native.Mathlib.Numerals.{add-one}
 use native.Mathlib.Omega.{arith}
 use lib.ListN.{length, getD}
 use Rattle.model.specs.Bytes.{overwrite}
 use Rattle.model.specs.Plan.{Plan}
-use Rattle.model.specs.Slot.{Job, slot}
+use Rattle.model.specs.Slot.{slot}
 use Rattle.policy.specs.declared.Rules.{Rules}
 use Rattle.policy.specs.declared.Done.{Done}
 use Rattle.policy.specs.View.{tasksIn, jobsOf, cellCount, Cells, Leaves, doneOf}
