@@ -57,19 +57,19 @@ pub record PlanSound (P : Plan) : Type 0 where
 -- ---- while it is read
 
 -- what holds of the commands read so far
-record Held (r : Reading) : Type 0 where
-  tasksFit : length (r .tasks) ≤ maxTasks
-  task : (t : Task) → List·Memᴰ t (r .tasks) → TaskSound t
-  policyFits : r .policy ≤ 4
-  tasked : 1 ≤ r .policy → 1 ≤ length (r .tasks)
-  statesFit : r .states ≤ maxStates
-  policied : 1 ≤ r .states → 1 ≤ r .policy
-  arc : (a : Arc) → List·Memᴰ a (r .arcs) → ArcSound (length (r .tasks)) (r .states) a
-  rise : ArcsRise (r .arcs)
-  stated : r .ended ≡ true → 1 ≤ r .states
+pub record Held (r : Reading) : Type 0 where
+  pub tasksFit : length (r .tasks) ≤ maxTasks
+  pub task : (t : Task) → List·Memᴰ t (r .tasks) → TaskSound t
+  pub policyFits : r .policy ≤ 4
+  pub tasked : 1 ≤ r .policy → 1 ≤ length (r .tasks)
+  pub statesFit : r .states ≤ maxStates
+  pub policied : 1 ≤ r .states → 1 ≤ r .policy
+  pub arc : (a : Arc) → List·Memᴰ a (r .arcs) → ArcSound (length (r .tasks)) (r .states) a
+  pub rise : ArcsRise (r .arcs)
+  pub stated : r .ended ≡ true → 1 ≤ r .states
 
 -- at the start
-held-nothing : Held nothingRead
+pub held-nothing : Held nothingRead
 held-nothing = record {
   tasksFit = omega arith;
   task = λ t m. absurd (List·Memᴰ·not-nil m);
@@ -122,7 +122,7 @@ more-tasks : {m n states : ℕ} {a : Arc} → m ≤ n → ArcSound m states a �
 more-tasks h s = record { fromBelow = s .fromBelow; labelBelow = lt-of-lt-of-le (s .labelBelow) (pow-mono h); toBelow = s .toBelow }
 
 -- a known command is one of five
-known-le : (c : ℕ) → unknown c ≡ false → c ≤ 5
+pub known-le : (c : ℕ) → unknown c ≡ false → c ≤ 5
 known-le c h = leb-true c 5 (both (leb 1 c) (leb c 5) (not-false (leb 1 c && leb c 5) h) .1)
 
 -- a number that is not 0
@@ -132,7 +132,7 @@ nonzero (suc n) h = omega arith
 
 module _ (r : Reading) (held : Held r) (x y z : ℕ) where
   -- a command without a fault keeps what is held
-  held-after : (c : ℕ) → Passes r c x y z → Held (after r c x y z)
+  pub held-after : (c : ℕ) → Passes r c x y z → Held (after r c x y z)
   unfolding after mayFollow inRange
   held-after zero p = absurd (false≢true (sym (p .known)))
   held-after (suc zero) p =

@@ -1,6 +1,6 @@
 // Reads plan.bin and labels.bin, one byte a label, and writes what the plan's policy does, slot by slot. A file that
-// cannot be opened reads as empty. What a longer file than any legal one holds past these buffers changes no number:
-// a plan has a fault before its 1,046th byte, and more than 4,096 labels are refused.
+// cannot be opened reads as empty. What a file holds past these buffers changes no answer (theory: long-plan,
+// long-labels).
 use libc::STDOUT_FILENO;
 
 fn main() {
