@@ -1,0 +1,3 @@
+pub mod Divisors
+pub mod Forms
+pub mod Runs
