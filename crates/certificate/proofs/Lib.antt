@@ -1,3 +1,4 @@
 pub mod Divisors
 pub mod Forms
+pub mod Placed
 pub mod Runs

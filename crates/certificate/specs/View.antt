@@ -1,14 +1,15 @@
 -- What the structs and enums of the form stand for.
-use Prim.Native.Nat.{ℕ, _+_, _*_, _≤_}
+use mathlib.Core.Path.{_≡_}
+use Prim.Native.Nat.{ℕ, _+_, _*_, _≤_, _<_}
 use mathlib.Core.Bool.{cond}
-use mathlib.Core.List.{List, map}
+use mathlib.Core.List.{List, [], map}
 use mathlib.Core.Option.{Option, none, some}
 use lib.IntN.{ℤ}
 use lib.ListN.{length, getD, drop}
 use Rattle.model.specs.Limits.{maxTasks, maxSteps}
 use Rattle.model.specs.Lists.{upFrom}
 use Rattle.model.specs.Bytes.{number, signed, part}
-use Rattle.model.specs.Certificate.{Certificate, Step, Parsed, has, withSteps, readSteps}
+use Rattle.model.specs.Certificate.{Certificate, Step, Parsed, has, withSteps, readSteps, readCertificate}
 use Rattle.certificate.specs.declared.Parts.{Parts}
 use Rattle.certificate.specs.declared.Form.{Form}
 use Rattle.certificate.specs.declared.Form.the-variants.{Fault, Read}
@@ -76,6 +77,20 @@ certificateOf bs c = record { p = c .p; q = c .q; potentials = potentialsIn bs (
 abbrev pub formOf : List ℕ → Form → Option Certificate
 formOf bs Fault = none
 formOf bs (Read c) = some (certificateOf bs c)
+
+-- the bytes are the certificate with these parts
+abbrev pub IsRead : List ℕ → Parts → Type 0
+IsRead bs c = readCertificate bs ≡ some (certificateOf bs c)
+
+-- the bytes are a certificate with a potential i
+pub record HasPotential (bs : List ℕ) (i : ℕ) : Type 0 where
+  pub certificate : Certificate
+  pub read : readCertificate bs ≡ some certificate
+  pub below : i < length (certificate .potentials)
+
+-- the step j
+abbrev pub stepAt : List Step → ℕ → Step
+stepAt ss j = getD ss j (record { label = 0; masks = [] })
 
 -- the items of a run, and the bytes after them
 abbrev pub runOf : {A : Type 0} → List ℕ → (ℕ → A) → ℕ → ℕ → Run → Option (Parsed (List A))

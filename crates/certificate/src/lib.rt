@@ -7,7 +7,7 @@ ghost use lib.ListN.{length, drop};
 ghost use Rattle.model.specs.Limits.{maxSteps};
 ghost use Rattle.model.specs.Check as check-model;
 ghost use Rattle.model.specs.Certificate as model;
-ghost use Rattle.certificate.specs.View.{headSize, potentialSize, stepSize, potentialIn, stepIn, certificateOf, formOf, runOf, Inside, cycleFrom, permilleOf};
+ghost use Rattle.certificate.specs.View.{headSize, potentialSize, stepSize, potentialIn, stepIn, certificateOf, formOf, runOf, Inside, IsRead, HasPotential, stepAt, cycleFrom, permilleOf};
 
 // The bytes of the head, of a potential, of the cycle's start and of a step, each with its command.
 pub const HEAD_SIZE: usize = 11;
@@ -17,6 +17,9 @@ pub const POTENTIAL_SIZE: usize = 9;
 pub const CYCLE_SIZE: usize = 3;
 
 pub const STEP_SIZE: usize = 6;
+
+// The bytes of a step's masks.
+pub const MASKS_SIZE: usize = 4;
 
 const MAX_NODES: usize = 1024;
 
@@ -182,6 +185,34 @@ pub fn read(s: &[u8]) -> Form
             steps: 0,
         },
     )
+}
+
+// The potential i of a certificate.
+pub fn potential(s: &[u8], i: usize) -> i64
+    requires { ⌜ HasPotential (now s) i ⌝ }
+    ensures { λ z. ⌜ ((c : model.Certificate) → model.readCertificate (now (s .entry)) ≡ some c → z ≡ check-model.potentialAt (c .potentials) i) ⌝ }
+{
+    words::read_i64(s, HEAD_SIZE + POTENTIAL_SIZE * i + 1)
+}
+
+// The label of the step j.
+pub fn step_label(s: &[u8], parts: Parts, j: usize) -> u8
+    requires { ⌜ IsRead (now s) parts × (j < parts .steps) ⌝ }
+    ensures { λ r. ⌜ r ≡ stepAt (certificateOf (now (s .entry)) parts .steps) j .label ⌝ }
+{
+    let from = parts.from;
+    s[from + STEP_SIZE * j + 1]
+}
+
+// The masks of the step j.
+pub fn step_masks(s: &[u8], parts: Parts, j: usize) -> [u8; 4]
+    requires { ⌜ IsRead (now s) parts × (j < parts .steps) ⌝ }
+    ensures { λ r. ⌜ r ≡ stepAt (certificateOf (now (s .entry)) parts .steps) j .masks ⌝ }
+{
+    let from = parts.from;
+    let mut masks = [0u8; 4];
+    words::copy(s, from + STEP_SIZE * j + 2, &mut masks, 0, MASKS_SIZE);
+    masks
 }
 
 // The greatest common divisor.
