@@ -33,6 +33,9 @@ nodeCommand = 0x13
 abbrev pub stepCommand : ℕ
 stepCommand = 0x14
 
+abbrev pub endCommand : ℕ
+endCommand = 0x15
+
 -- the bytes of a potential's number, and of the masks of a step
 abbrev pub potentialWidth : ℕ
 potentialWidth = 8

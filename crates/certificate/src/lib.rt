@@ -1,13 +1,15 @@
-// Certificates: the form read in place, and the fraction.
+// Certificates: the form read in place and written, and the fraction.
 ghost use mathlib.Core.Path.{_≡_};
 ghost use mathlib.Core.Bool.{cond};
+ghost use mathlib.Core.List.{[], _∷_, _++_};
 ghost use mathlib.Core.Option.{none, some};
-ghost use Prim.Native.Nat.{_≤_, _<_};
+ghost use Prim.Native.Nat.{_+_, _*_, _≤_, _<_};
 ghost use lib.ListN.{length, drop};
 ghost use Rattle.model.specs.Limits.{maxSteps};
+ghost use Rattle.model.specs.Bytes.{bytes, complement, overwrite};
 ghost use Rattle.model.specs.Check as check-model;
 ghost use Rattle.model.specs.Certificate as model;
-ghost use Rattle.certificate.specs.View.{headSize, potentialSize, stepSize, potentialIn, stepIn, certificateOf, formOf, runOf, Inside, IsRead, HasPotential, stepAt, cycleFrom, permilleOf};
+ghost use Rattle.certificate.specs.View.{headCommand, potentialCommand, nodeCommand, stepCommand, endCommand, potentialWidth, cycleSize, headSize, potentialSize, stepSize, potentialIn, stepIn, certificateOf, formOf, runOf, Inside, IsRead, HasPotential, stepAt, cycleFrom, permilleOf};
 
 // The bytes of the head, of a potential, of the cycle's start and of a step, each with its command.
 pub const HEAD_SIZE: usize = 11;
@@ -253,4 +255,52 @@ pub fn thousandths(p: u32, q: u32) -> Permille
         return Permille::None;
     }
     Permille::Some(1000 * p as u64 / q as u64)
+}
+
+// Writes the head, for n potentials.
+pub fn write_head(out: &mut [u8], p: u32, q: u32, n: u16)
+    requires { ⌜ headSize ≤ length (now out) ⌝ }
+    ensures { λ _. ⌜ now (out .exit) ≡ overwrite (now (out .entry)) 0 ((headCommand ∷ bytes 4 p) ++ bytes 4 q ++ bytes 2 n) ⌝ }
+{
+    out[0] = 0x11;
+    words::write_u32(out, 1, p);
+    words::write_u32(out, 5, q);
+    words::write_u16(out, 9, n);
+}
+
+// Writes the potential i.
+pub fn write_potential(out: &mut [u8], i: usize, z: i64)
+    requires { ⌜ headSize + potentialSize * i + potentialSize ≤ length (now out) ⌝ }
+    ensures { λ _. ⌜ now (out .exit) ≡ overwrite (now (out .entry)) (headSize + potentialSize * i) (potentialCommand ∷ bytes potentialWidth (complement z)) ⌝ }
+{
+    let at = HEAD_SIZE + POTENTIAL_SIZE * i;
+    out[at] = 0x12;
+    words::write_i64(out, at + 1, z);
+}
+
+// Writes the node where the cycle starts.
+pub fn write_cycle_head(out: &mut [u8], at: usize, node: u16)
+    requires { ⌜ at + cycleSize ≤ length (now out) ⌝ }
+    ensures { λ _. ⌜ now (out .exit) ≡ overwrite (now (out .entry)) at (nodeCommand ∷ bytes 2 node) ⌝ }
+{
+    out[at] = 0x13;
+    words::write_u16(out, at + 1, node);
+}
+
+// Writes a step.
+pub fn write_step(out: &mut [u8], at: usize, label: u8, masks: [u8; 4])
+    requires { ⌜ at + stepSize ≤ length (now out) ⌝ }
+    ensures { λ _. ⌜ now (out .exit) ≡ overwrite (now (out .entry)) at (stepCommand ∷ label ∷ masks) ⌝ }
+{
+    out[at] = 0x14;
+    out[at + 1] = label;
+    words::copy(&masks, 0, out, at + 2, MASKS_SIZE);
+}
+
+// Writes the end.
+pub fn write_end(out: &mut [u8], at: usize)
+    requires { ⌜ at < length (now out) ⌝ }
+    ensures { λ _. ⌜ now (out .exit) ≡ overwrite (now (out .entry)) at (endCommand ∷ []) ⌝ }
+{
+    out[at] = 0x15;
 }
