@@ -17,18 +17,7 @@ use Rattle.model.proofs.Lists.{flatMap-append}
 use Rattle.words.proofs.Numbers.{bytes-length}
 use Rattle.words.proofs.Memory.{overwrite-cons, overwrite-join}
 use Rattle.theory.proofs.Form.{potentialBytes, stepBytes}
-use Rattle.certificate.specs.View.{headCommand, nodeCommand, stepCommand, endCommand, masksWidth, headSize, potentialSize, cycleSize, stepSize}
-
--- ---- the pieces
-
-abbrev pub headBytes : ℕ → ℕ → ℕ → List ℕ
-headBytes p q n = (headCommand ∷ bytes 4 p) ++ bytes 4 q ++ bytes 2 n
-
-abbrev pub nodeBytes : ℕ → List ℕ
-nodeBytes v = nodeCommand ∷ bytes 2 v
-
-abbrev pub endBytes : List ℕ
-endBytes = endCommand ∷ []
+use Rattle.certificate.specs.View.{headCommand, stepCommand, masksWidth, headSize, potentialSize, cycleSize, stepSize, headBytes, nodeBytes, endBytes}
 
 -- one after another they are the certificate's bytes
 pub certificate-pieces : (c : Certificate) →

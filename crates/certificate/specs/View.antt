@@ -2,13 +2,13 @@
 use mathlib.Core.Path.{_≡_}
 use Prim.Native.Nat.{ℕ, _+_, _*_, _≤_, _<_}
 use mathlib.Core.Bool.{cond}
-use mathlib.Core.List.{List, [], map}
+use mathlib.Core.List.{List, [], _∷_, _++_, map}
 use mathlib.Core.Option.{Option, none, some}
 use lib.IntN.{ℤ}
 use lib.ListN.{length, getD, drop}
 use Rattle.model.specs.Limits.{maxTasks, maxSteps}
 use Rattle.model.specs.Lists.{upFrom}
-use Rattle.model.specs.Bytes.{number, signed, part}
+use Rattle.model.specs.Bytes.{number, bytes, signed, part}
 use Rattle.model.specs.Certificate.{Certificate, Step, Parsed, has, withSteps, readSteps, readCertificate}
 use Rattle.certificate.specs.declared.Parts.{Parts}
 use Rattle.certificate.specs.declared.Form.{Form}
@@ -55,6 +55,19 @@ cycleSize = 3
 
 abbrev pub stepSize : ℕ
 stepSize = 2 + masksWidth
+
+-- the fraction and the number of potentials in the head, and the node of a cycle that starts at a place
+abbrev pub pIn : List ℕ → ℕ
+pIn bs = number (part bs 1 4)
+
+abbrev pub qIn : List ℕ → ℕ
+qIn bs = number (part bs 5 4)
+
+abbrev pub countIn : List ℕ → ℕ
+countIn bs = number (part bs 9 2)
+
+abbrev pub nodeIn : List ℕ → ℕ → ℕ
+nodeIn bs at = number (part bs (at + 1) 2)
 
 -- the potential, and the step, whose command is at a place
 abbrev pub potentialIn : List ℕ → ℕ → ℤ
@@ -109,7 +122,17 @@ Inside bs (run.Items n at) = at ≤ length bs
 abbrev pub cycleFrom : List ℕ → ℕ → ℕ → ℕ → ℕ → Option Certificate
 cycleFrom bs p q n at =
     let rest = drop at bs in
-    cond (has rest nodeCommand cycleSize) (withSteps p q (potentialsIn bs n) (number (part rest 1 2)) (readSteps maxSteps (drop cycleSize rest))) none
+    cond (has rest nodeCommand cycleSize) (withSteps p q (potentialsIn bs n) (nodeIn rest 0) (readSteps maxSteps (drop cycleSize rest))) none
+
+-- the pieces that are written of the head, of the cycle's start and of the end
+abbrev pub headBytes : ℕ → ℕ → ℕ → List ℕ
+headBytes p q n = (headCommand ∷ bytes 4 p) ++ bytes 4 q ++ bytes 2 n
+
+abbrev pub nodeBytes : ℕ → List ℕ
+nodeBytes v = nodeCommand ∷ bytes 2 v
+
+abbrev pub endBytes : List ℕ
+endBytes = endCommand ∷ []
 
 -- ---- the fraction
 

@@ -1,7 +1,7 @@
 // Certificates: the form read in place and written, and the fraction.
 ghost use mathlib.Core.Path.{_≡_};
 ghost use mathlib.Core.Bool.{cond};
-ghost use mathlib.Core.List.{[], _∷_, _++_};
+ghost use mathlib.Core.List.{_∷_};
 ghost use mathlib.Core.Option.{none, some};
 ghost use Prim.Native.Nat.{_+_, _*_, _≤_, _<_};
 ghost use lib.ListN.{length, drop};
@@ -9,7 +9,7 @@ ghost use Rattle.model.specs.Limits.{maxSteps};
 ghost use Rattle.model.specs.Bytes.{bytes, complement, overwrite};
 ghost use Rattle.model.specs.Check as check-model;
 ghost use Rattle.model.specs.Certificate as model;
-ghost use Rattle.certificate.specs.View.{headCommand, potentialCommand, nodeCommand, stepCommand, endCommand, potentialWidth, cycleSize, headSize, potentialSize, stepSize, potentialIn, stepIn, certificateOf, formOf, runOf, Inside, IsRead, HasPotential, stepAt, cycleFrom, permilleOf};
+ghost use Rattle.certificate.specs.View.{potentialCommand, stepCommand, potentialWidth, cycleSize, headSize, potentialSize, stepSize, potentialIn, stepIn, certificateOf, formOf, runOf, Inside, IsRead, HasPotential, stepAt, cycleFrom, headBytes, nodeBytes, endBytes, permilleOf};
 
 // The bytes of the head, of a potential, of the cycle's start and of a step, each with its command.
 pub const HEAD_SIZE: usize = 11;
@@ -260,7 +260,7 @@ pub fn thousandths(p: u32, q: u32) -> Permille
 // Writes the head, for n potentials.
 pub fn write_head(out: &mut [u8], p: u32, q: u32, n: u16)
     requires { ⌜ headSize ≤ length (now out) ⌝ }
-    ensures { λ _. ⌜ now (out .exit) ≡ overwrite (now (out .entry)) 0 ((headCommand ∷ bytes 4 p) ++ bytes 4 q ++ bytes 2 n) ⌝ }
+    ensures { λ _. ⌜ now (out .exit) ≡ overwrite (now (out .entry)) 0 (headBytes p q n) ⌝ }
 {
     out[0] = 0x11;
     words::write_u32(out, 1, p);
@@ -281,7 +281,7 @@ pub fn write_potential(out: &mut [u8], i: usize, z: i64)
 // Writes the node where the cycle starts.
 pub fn write_cycle_head(out: &mut [u8], at: usize, node: u16)
     requires { ⌜ at + cycleSize ≤ length (now out) ⌝ }
-    ensures { λ _. ⌜ now (out .exit) ≡ overwrite (now (out .entry)) at (nodeCommand ∷ bytes 2 node) ⌝ }
+    ensures { λ _. ⌜ now (out .exit) ≡ overwrite (now (out .entry)) at (nodeBytes node) ⌝ }
 {
     out[at] = 0x13;
     words::write_u16(out, at + 1, node);
@@ -300,7 +300,7 @@ pub fn write_step(out: &mut [u8], at: usize, label: u8, masks: [u8; 4])
 // Writes the end.
 pub fn write_end(out: &mut [u8], at: usize)
     requires { ⌜ at < length (now out) ⌝ }
-    ensures { λ _. ⌜ now (out .exit) ≡ overwrite (now (out .entry)) at (endCommand ∷ []) ⌝ }
+    ensures { λ _. ⌜ now (out .exit) ≡ overwrite (now (out .entry)) at endBytes ⌝ }
 {
     out[at] = 0x15;
 }
