@@ -13,15 +13,16 @@ use lib.Dec.{eqb}
 use lib.ListN.{length, getD, drop, length-drop}
 use lib.Seq.{getD-drop}
 use Rattle.model.specs.Certificate.{Certificate, isEnd}
+use Rattle.certificate.specs.View.{endCommand}
 use Rattle.certificate.proofs.ended.Statement.{statement}
 use Rattle.certificate.proofs.ended.Tie as tie
 
 -- the end's tests in place
-by-tests : (bs : List ℕ) (at : ℕ) (o : Option Certificate) {a b : Bool} → eqb (length bs - at) 1 ≡ a → eqb (getD bs at 0) 0x15 ≡ b →
+by-tests : (bs : List ℕ) (at : ℕ) (o : Option Certificate) {a b : Bool} → eqb (length bs - at) 1 ≡ a → eqb (getD bs at 0) endCommand ≡ b →
     cond (a && b) o none ≡ cond (isEnd (drop at bs)) o none
 by-tests bs at o p q =
     sym
-    (ap₂ (λ (m x : ℕ). cond (eqb m 1 && eqb x 0x15) o none) (length-drop at bs) (getD-drop at bs 0 0 ∙ ap (λ (k : ℕ). getD bs k 0) (add-zero at))
+    (ap₂ (λ (m x : ℕ). cond (eqb m 1 && eqb x endCommand) o none) (length-drop at bs) (getD-drop at bs 0 0 ∙ ap (λ (k : ℕ). getD bs k 0) (add-zero at))
     ∙ ap₂ (λ s t. cond (s && t) o none) p q)
 
 sub-if1 : tie.Need-sub-if1
