@@ -26,12 +26,12 @@ use Rattle.theory.proofs.Form.{potentialBytes, stepBytes, bytes-grouped
 
 module _ {A : Type 0} where
   -- a test that must be true for a value
-  cond-some : (b : Bool) (o : Option A) {c : A} → cond b o none ≡ some c → (b ≡ true) × (o ≡ some c)
+  pub cond-some : (b : Bool) (o : Option A) {c : A} → cond b o none ≡ some c → (b ≡ true) × (o ≡ some c)
   cond-some true o h = (refl, h)
   cond-some false o {c} h = absurd (Option·none-ne-some c h)
 
   -- one element more, and what is read after it
-  cons-some : (a : A) (o : Option (Parsed (List A))) (r : Parsed (List A)) → consParsed a o ≡ some r →
+  pub cons-some : (a : A) (o : Option (Parsed (List A))) (r : Parsed (List A)) → consParsed a o ≡ some r →
       (t : Parsed (List A)) × (o ≡ some t) × (record { value = a ∷ t .value; rest = t .rest } ≡ r)
   cons-some a none r h = absurd (Option·none-ne-some r h)
   cons-some a (some t) r h = (t, refl, Option·some-injective _ _ h)

@@ -82,6 +82,11 @@ overwrite-join m at xs ys fits =
     = rw front at (drop-append-add (take at m ++ xs) (drop (at + length xs) m) (length ys)) ∙ drop-drop (length ys) (at + length xs) m in
     rw (take-at (take at m ++ xs) (drop (at + length xs) m) (at + length xs) front, rest, length-append xs ys, ← add-assoc, append-assoc (take at m) xs ys)
 
+-- a store, and bytes written after it
+pub overwrite-cons : (m : List ℕ) (at b : ℕ) (bs : List ℕ) → at + 1 + length bs ≤ length m
+    → overwrite (set m at b) (at + 1) bs ≡ overwrite m at (b ∷ bs)
+overwrite-cons m at b bs fits = rw (overwrite-one m at b (omega arith)) (overwrite-join m at (b ∷ []) bs fits)
+
 -- a store next to the n bytes that were written
 pub overwrite-more : (m : List ℕ) (at : ℕ) (xs : List ℕ) (n b : ℕ) → length xs ≡ n → at + n < length m
     → set (overwrite m at xs) (at + n) b ≡ overwrite m at (xs ++ (b ∷ []))

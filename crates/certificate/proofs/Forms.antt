@@ -1,0 +1,110 @@
+-- The form, from its parts: the head, the potentials and the cycle.
+-- Assumes nothing.
+use mathlib.Core.Path.{_≡_, refl, sym, ap, ap₂, _∙_}
+use mathlib.Core.Bool.{Bool, true, false, cond, _&&_, and-false, and-true}
+use mathlib.Core.List.{List, []}
+use mathlib.Core.Option.{none, some}
+use Prim.Native.Nat.{ℕ, _+_, _≤_, _<_}
+use native.Mathlib.Omega.{arith}
+use borrow.Author.Tests.{lt-ltb, le-ltb, le-leb, lt-leb, eq-eqb, ne-eqb}
+use lib.Dec.{leb, ltb, eqb}
+use lib.ListN.{take, drop}
+use lib.Seq.{drop-drop}
+use Rattle.model.specs.Limits.{maxNodes, maxSteps}
+use Rattle.model.specs.Bytes.{number}
+use Rattle.model.specs.Certificate.{Certificate, has, readPotentials, readSteps, isEnd, withSteps, withPotentials, readCertificate}
+use Rattle.certificate.specs.declared.Run.{Run}
+use Rattle.certificate.specs.declared.Run.the-variants.{Fault, Items}
+use Rattle.certificate.specs.View.{headCommand, nodeCommand, headSize, potentialSize, cycleSize, stepSize, potentialIn, stepIn, pIn, qIn, countIn, nodeIn, items, potentialsIn, stepsIn, runOf, cycleFrom}
+use Rattle.certificate.proofs.Runs.{items-length}
+
+-- ---- the cycle
+
+module _ (bs : List ℕ) (p q n at : ℕ) where
+  -- with a cycle of m steps from the node v
+  abbrev withCycle : ℕ → ℕ → Certificate
+  withCycle v m = record { p = p; q = q; potentials = potentialsIn bs n; node = v; steps = stepsIn bs (at + cycleSize) m }
+
+  pub cycle-missing : has (drop at bs) nodeCommand cycleSize ≡ false → none ≡ cycleFrom bs p q n at
+  cycle-missing e =
+      sym
+      (λ i. cond (e i) (withSteps p q (potentialsIn bs n) (nodeIn (drop at bs) 0) (readSteps maxSteps (drop cycleSize (drop at bs)))) none)
+
+  module _ (here : has (drop at bs) nodeCommand cycleSize ≡ true) (r : Run)
+      (read : runOf bs (stepIn bs) (at + cycleSize) stepSize r ≡ readSteps maxSteps (drop (at + cycleSize) bs)) where
+    -- by the run of steps
+    by-steps : {u : Run} → r ≡ u →
+        cycleFrom bs p q n at ≡ withSteps p q (potentialsIn bs n) (nodeIn bs at) (runOf bs (stepIn bs) (at + cycleSize) stepSize u)
+    by-steps k =
+        (λ i. cond (here i) (withSteps p q (potentialsIn bs n) (number (take 2 (drop-drop 1 at bs i))) (readSteps maxSteps (drop-drop cycleSize at bs i))) none)
+        ∙ ap (withSteps p q (potentialsIn bs n) (nodeIn bs at)) (sym read ∙ ap (runOf bs (stepIn bs) (at + cycleSize) stepSize) k)
+
+    pub cycle-fault : r ≡ Fault → none ≡ cycleFrom bs p q n at
+    cycle-fault k = sym (by-steps k)
+
+    module _ (m end : ℕ) (k : r ≡ Items m end) where
+      -- by how many they are
+      by-count : {b : Bool} → ltb 0 m ≡ b →
+          cycleFrom bs p q n at ≡ cond (isEnd (drop end bs) && b) (some (withCycle (nodeIn bs at) m)) none
+      by-count e =
+          by-steps k
+          ∙ ap (λ t. cond (isEnd (drop end bs) && t) (some (withCycle (nodeIn bs at) m)) none)
+          (ap (ltb 0) (items-length (stepIn bs) (at + cycleSize) stepSize m) ∙ e)
+
+      pub cycle-empty : m ≡ 0 → none ≡ cycleFrom bs p q n at
+      cycle-empty z = sym (by-count (le-ltb 0 m (omega arith)) ∙ ap (λ t. cond t (some (withCycle (nodeIn bs at) m)) none) (and-false (isEnd (drop end bs))))
+
+      pub cycle-read : (m ≡ 0 → ⊥) → (v : ℕ) → v ≡ nodeIn bs at →
+          cond (isEnd (drop end bs)) (some (withCycle v m)) none ≡ cycleFrom bs p q n at
+      cycle-read h v e =
+          sym (by-count (lt-ltb 0 m (omega arith)) ∙ ap₂ (λ t (u : ℕ). cond t (some (withCycle u m)) none) (and-true (isEnd (drop end bs))) (sym e))
+
+-- ---- the certificate
+
+module _ (bs : List ℕ) where
+  -- by the head's tests
+  by-head : {a b c : Bool} → has bs headCommand headSize ≡ a → leb 1 (countIn bs) ≡ b → leb (countIn bs) maxNodes ≡ c →
+      readCertificate bs ≡ cond (a && b && c)
+      (withPotentials (pIn bs) (qIn bs) (readPotentials (countIn bs) (drop headSize bs))) none
+  unfolding readCertificate
+  by-head e f g =
+      λ i. cond (e i && f i && g i) (withPotentials (pIn bs) (qIn bs) (readPotentials (countIn bs) (drop headSize bs))) none
+
+  pub head-missing : has bs headCommand headSize ≡ false → none ≡ readCertificate bs
+  head-missing e = sym (by-head e refl refl)
+
+  module _ (here : has bs headCommand headSize ≡ true) (n : ℕ) (isN : n ≡ countIn bs) where
+    pub no-nodes : n < 1 → none ≡ readCertificate bs
+    no-nodes h = sym (by-head here (ap (leb 1) (sym isN) ∙ lt-leb 1 n h) refl)
+
+    pub many-nodes : 1 ≤ n → maxNodes < n → none ≡ readCertificate bs
+    many-nodes h k = sym (by-head here (ap (leb 1) (sym isN) ∙ le-leb 1 n h) (ap (λ (m : ℕ). leb m maxNodes) (sym isN) ∙ lt-leb n maxNodes k))
+
+    module _ (low : 1 ≤ n) (high : n ≤ maxNodes) (p q : ℕ) (isP : p ≡ pIn bs) (isQ : q ≡ qIn bs) (r : Run)
+        (read : runOf bs (potentialIn bs) headSize potentialSize r ≡ readPotentials n (drop headSize bs)) where
+      -- by the run of potentials
+      by-potentials : {u : Run} → r ≡ u → readCertificate bs ≡ withPotentials p q (runOf bs (potentialIn bs) headSize potentialSize u)
+      by-potentials k =
+          by-head here (ap (leb 1) (sym isN) ∙ le-leb 1 n low) (ap (λ (m : ℕ). leb m maxNodes) (sym isN) ∙ le-leb n maxNodes high)
+          ∙ sym (λ i. withPotentials (isP i) (isQ i) (readPotentials (isN i) (drop headSize bs)))
+          ∙ ap (withPotentials p q) (sym read ∙ ap (runOf bs (potentialIn bs) headSize potentialSize) k)
+
+      pub potentials-fault : r ≡ Fault → none ≡ readCertificate bs
+      potentials-fault k = sym (by-potentials k)
+
+      module _ (m at : ℕ) (k : r ≡ Items m at) where
+        -- by whether there is a cycle
+        by-cycle : {b : Bool} → eqb q 0 ≡ b →
+            readCertificate bs ≡ cond b (cond (isEnd (drop at bs)) (some (record { p = p; q = q; potentials = potentialsIn bs m; node = 0; steps = [] })) none)
+            (cycleFrom bs p q m at)
+        by-cycle e =
+            by-potentials k
+            ∙ (λ i. cond (e i) (cond (isEnd (drop at bs)) (some (record { p = p; q = q; potentials = potentialsIn bs m; node = 0; steps = [] })) none) (cycleFrom bs p q m at))
+
+        pub with-cycle : (q ≡ 0 → ⊥) → cycleFrom bs p q m at ≡ readCertificate bs
+        with-cycle h = sym (by-cycle (ne-eqb q 0 h))
+
+        pub without-cycle : q ≡ 0 →
+            cond (isEnd (drop at bs)) (some (record { p = p; q = q; potentials = potentialsIn bs m; node = 0; steps = stepsIn bs at 0 })) none ≡ readCertificate bs
+        unfolding items
+        without-cycle z = sym (by-cycle (eq-eqb q 0 z))

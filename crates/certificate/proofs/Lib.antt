@@ -1,0 +1,5 @@
+pub mod Divisors
+pub mod Forms
+pub mod Pieces
+pub mod Placed
+pub mod Runs

@@ -1,0 +1,98 @@
+-- `certificate::cycle` meets its contract: the node, the steps and the end.
+-- Assumes nothing.
+use mathlib.Core.Path.{_≡_, sym, _∙_, subst}
+use mathlib.Core.Bool.{true}
+use denote.Ref.{now}
+use Prim.Native.Nat.{_+_, _≤_}
+use native.Mathlib.Omega.{arith}
+use borrow.Author.Needs.{needs}
+use borrow.Author.Tests.{not-true, not-false}
+use lib.ListN.{length, drop}
+use Rattle.model.specs.Certificate.{has}
+use Rattle.certificate.specs.View.{nodeCommand, cycleSize, Inside}
+use Rattle.certificate.proofs.Runs.{has-room}
+use Rattle.certificate.proofs.Forms.{cycle-missing, cycle-fault, cycle-empty, cycle-read}
+use Rattle.certificate.proofs.cycle.Statement.{statement}
+use Rattle.certificate.proofs.cycle.Tie as tie
+
+has-requires : tie.Need-has-requires
+has-requires c κs = search needs
+
+returns : tie.Need-returns
+returns c =
+    let a = c .before .before .before .args in
+    cycle-missing (now (a .s)) (a .p) (a .q) (a .count) (a .at) (sym (c .before .has .ensures) ∙ not-true _ (c .if1 .taken))
+
+-- the cycle's start stands here
+stands : (c : tie.Else1) → has (drop (c .before .before .before .args .at) (now (c .before .before .before .args .s))) nodeCommand cycleSize ≡ true
+stands c = sym (c .before .has .ensures) ∙ not-false _ (c .if1 .left)
+
+room : (c : tie.Else1) → c .before .before .before .args .at + cycleSize ≤ length (now (c .before .before .before .args .s))
+room c = let a = c .before .before .before in has-room (now (a .args .s)) (a .args .at) _ _ (a .pre) (stands c)
+
+add-read-u16 : tie.Need-add-read-u16
+add-read-u16 c = search needs
+
+read-u16-requires : tie.Need-read-u16-requires
+read-u16-requires c κs = omega (arith, room c)
+
+cast-node : tie.Need-cast-node
+cast-node c = search needs
+
+add-from : tie.Need-add-from
+add-from c = search needs
+
+steps-requires : tie.Need-steps-requires
+steps-requires c κs = room (c .before)
+
+enum-known-n : tie.Need-enum-known-n
+enum-known-n c = search needs
+
+enum-told : tie.Need-enum-told
+enum-told c = search needs
+
+returns-2 : tie.Need-returns-2
+returns-2 c =
+    let r = c .before .before in
+    let a = r .before .before .before .before .before .args in
+    cycle-fault (now (a .s)) (a .p) (a .q) (a .count) (a .at) (stands (r .before .before)) _ (r .steps .ensures .1) (c .enum-told .given .1)
+
+returns-3 : tie.Need-returns-3
+returns-3 c =
+    let n = c .before .before in
+    let r = n .before .before in
+    let a = r .before .before .before .before .before .args in
+    cycle-empty (now (a .s)) (a .p) (a .q) (a .count) (a .at) (stands (r .before .before)) _ (r .steps .ensures .1) _ _ (n .n .given .1) (c .if2 .taken)
+
+ended-requires : tie.Need-ended-requires
+ended-requires c κs =
+    let n = c .before .before in
+    let r = n .before .before in
+    subst (Inside (now (r .before .before .before .before .before .args .s))) (n .n .given .1) (r .steps .ensures .0)
+
+returns-4 : tie.Need-returns-4
+returns-4 c =
+    let n = c .before .before .before in
+    let r = n .before .before in
+    let a = r .before .before .before .before .before .args in
+    c .ended .ensures
+    ∙ cycle-read (now (a .s)) (a .p) (a .q) (a .count) (a .at) (stands (r .before .before)) _ (r .steps .ensures .1) _ _ (n .n .given .1) (c .before .if2 .left)
+    _ (r .before .read-u16 .ensures)
+
+pub cycle-spec : {M : Type 1} → statement M
+cycle-spec =
+    tie.close
+    (tie.spec
+    has-requires
+    returns
+    add-read-u16
+    read-u16-requires
+    cast-node
+    add-from
+    steps-requires
+    enum-known-n
+    enum-told
+    returns-2
+    returns-3
+    ended-requires
+    returns-4)

@@ -1,0 +1,44 @@
+-- `certificate::ended` meets its contract: its tests are those of the end.
+-- Assumes nothing.
+use mathlib.Core.Path.{_≡_, refl, sym, ap, ap₂, _∙_}
+use mathlib.Core.Bool.{Bool, cond, _&&_}
+use mathlib.Core.List.{List}
+use mathlib.Core.Option.{Option, none}
+use denote.Ref.{now}
+use borrow.Author.Needs.{needs}
+use borrow.Author.Tests.{eq-eqb, ne-eqb}
+use Prim.Native.Nat.{ℕ, _-_}
+use native.Mathlib.Nat.{add-zero}
+use lib.Dec.{eqb}
+use lib.ListN.{length, getD, drop, length-drop}
+use lib.Seq.{getD-drop}
+use Rattle.model.specs.Certificate.{Certificate, isEnd}
+use Rattle.certificate.specs.View.{endCommand}
+use Rattle.certificate.proofs.ended.Statement.{statement}
+use Rattle.certificate.proofs.ended.Tie as tie
+
+-- the end's tests in place
+by-tests : (bs : List ℕ) (at : ℕ) (o : Option Certificate) {a b : Bool} → eqb (length bs - at) 1 ≡ a → eqb (getD bs at 0) endCommand ≡ b →
+    cond (a && b) o none ≡ cond (isEnd (drop at bs)) o none
+by-tests bs at o p q =
+    sym
+    (ap₂ (λ (m x : ℕ). cond (eqb m 1 && eqb x endCommand) o none) (length-drop at bs) (getD-drop at bs 0 0 ∙ ap (λ (k : ℕ). getD bs k 0) (add-zero at))
+    ∙ ap₂ (λ s t. cond (s && t) o none) p q)
+
+sub-if1 : tie.Need-sub-if1
+sub-if1 c = search needs
+
+returns : tie.Need-returns
+returns c = by-tests (now (c .before .args .s)) (c .before .args .at) _ (ne-eqb _ _ (c .if1 .taken)) refl
+
+shared-slice-read-if2 : tie.Need-shared-slice-read-if2
+shared-slice-read-if2 c = search needs
+
+returns-2 : tie.Need-returns-2
+returns-2 c = by-tests (now (c .before .before .before .args .s)) (c .before .before .before .args .at) _ (eq-eqb _ _ (c .before .before .if1 .left)) (ne-eqb _ _ (c .if2 .taken))
+
+returns-3 : tie.Need-returns-3
+returns-3 c = by-tests (now (c .before .before .before .args .s)) (c .before .before .before .args .at) _ (eq-eqb _ _ (c .before .before .if1 .left)) (eq-eqb _ _ (c .if2 .left))
+
+pub ended-spec : {M : Type 1} → statement M
+ended-spec = tie.close (tie.spec sub-if1 returns shared-slice-read-if2 returns-2 returns-3)

@@ -1,0 +1,86 @@
+-- `certificate::steps` meets its contract: before each step the reading is those so far, and then what is read from there.
+-- Assumes nothing.
+use mathlib.Core.Path.{_≡_, refl, sym, _∙_}
+use mathlib.Core.Bool.{true}
+use mathlib.Core.List.{List}
+use denote.Ref.{now}
+use Prim.Native.Nat.{ℕ, _-_}
+use native.Mathlib.Omega.{arith}
+use borrow.Author.Needs.{needs}
+use borrow.Author.Tests.{not-true, not-false}
+use lib.ListN.{drop}
+use Rattle.model.specs.Limits.{maxSteps}
+use Rattle.model.specs.Certificate.{has, readSteps}
+use Rattle.certificate.specs.View.{stepCommand, stepSize, stepIn}
+use Rattle.certificate.proofs.Runs.{Reached, reached-start, reached-next, reached-end, reached-all, reached-fault, step-next, step-fault, step-none}
+use Rattle.certificate.proofs.steps.Statement.{statement}
+use Rattle.certificate.proofs.steps.Tie as tie
+
+abbrev Inv-loop : tie.InvT-loop
+Inv-loop s from i₀ at₀ i at = Reached readSteps (stepIn s) s from stepSize maxSteps i at
+
+abbrev μ-loop : tie.MeasureT-loop
+μ-loop s from i₀ at₀ i at = maxSteps - i
+
+loop-holds : tie.Need-loop-holds Inv-loop μ-loop
+loop-holds c = reached-start _ _ _ _ _ _ (c .before .pre)
+
+-- the bytes
+abbrev bytes : tie.At-loop Inv-loop μ-loop → List ℕ
+bytes h = now (h .before .before .args .s)
+
+has-requires : tie.Need-has-requires Inv-loop μ-loop
+has-requires c κs = (c .before .loop .inv .inside, omega arith)
+
+returns : tie.Need-returns Inv-loop μ-loop
+returns c =
+    let l = c .before .before .before in
+    (l .loop .inv .inside, reached-end _ _ _ _ _ _ _ _ (l .loop .inv) (step-none (bytes l) (l .loop .at) (sym (c .before .has .ensures) ∙ not-true _ (c .if1 .taken)) _))
+
+sub-if2 : tie.Need-sub-if2 Inv-loop μ-loop
+sub-if2 c = search needs
+
+-- a step stands here
+stands : (c : tie.Else1 Inv-loop μ-loop) → has (drop (c .before .before .before .loop .at) (bytes (c .before .before .before))) stepCommand 1 ≡ true
+stands c = sym (c .before .has .ensures) ∙ not-false _ (c .if1 .left)
+
+returns-2 : tie.Need-returns-2 Inv-loop μ-loop
+returns-2 c =
+    let l = c .before .before .before in
+    (tt, reached-fault _ _ _ _ _ _ _ _ (l .before .loop .inv) (l .loop-test .taken) (step-fault (bytes (l .before)) (l .before .loop .at) (stands (c .before)) (c .if2 .taken)))
+
+add-at : tie.Need-add-at Inv-loop μ-loop
+add-at c = search needs
+
+add-i : tie.Need-add-i Inv-loop μ-loop
+add-i c = search needs
+
+loop-less : tie.Need-loop-less Inv-loop μ-loop
+loop-less c = search needs
+
+loop-again : tie.Need-loop-again Inv-loop μ-loop
+loop-again c =
+    let l = c .before .before .before in
+    let i = l .before .loop .inv in
+    reached-next _ _ _ _ _ _ _ _ i (l .loop-test .taken) (omega (arith, i .inside, c .if2 .left)) (step-next (bytes (l .before)) (l .before .loop .at) (stands (c .before)) (c .if2 .left))
+
+returns-3 : tie.Need-returns-3 Inv-loop μ-loop
+unfolding readSteps
+returns-3 c = let i = c .before .loop .inv in (i .inside, reached-all _ _ _ _ _ _ _ _ i (c .loop-test .left) refl)
+
+pub steps-spec : {M : Type 1} → statement M
+steps-spec =
+    tie.close
+    (tie.spec
+    Inv-loop
+    μ-loop
+    loop-holds
+    has-requires
+    returns
+    sub-if2
+    returns-2
+    add-at
+    add-i
+    loop-less
+    loop-again
+    returns-3)

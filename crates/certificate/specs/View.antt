@@ -1,0 +1,141 @@
+-- What the structs and enums of the form stand for.
+use mathlib.Core.Path.{_≡_}
+use Prim.Native.Nat.{ℕ, _+_, _*_, _≤_, _<_}
+use mathlib.Core.Bool.{cond}
+use mathlib.Core.List.{List, [], _∷_, _++_, map}
+use mathlib.Core.Option.{Option, none, some}
+use lib.IntN.{ℤ}
+use lib.ListN.{length, getD, drop}
+use Rattle.model.specs.Limits.{maxTasks, maxSteps}
+use Rattle.model.specs.Lists.{upFrom}
+use Rattle.model.specs.Bytes.{number, bytes, signed, part}
+use Rattle.model.specs.Certificate.{Certificate, Step, Parsed, has, withSteps, readSteps, readCertificate}
+use Rattle.certificate.specs.declared.Parts.{Parts}
+use Rattle.certificate.specs.declared.Form.{Form}
+use Rattle.certificate.specs.declared.Form.the-variants.{Fault, Read}
+use Rattle.certificate.specs.declared.Run.{Run}
+use Rattle.certificate.specs.declared.Run.the-variants as run
+use Rattle.certificate.specs.declared.Permille.{Permille}
+use Rattle.certificate.specs.declared.Permille.the-variants as permille
+
+-- ---- the form
+
+-- the commands
+abbrev pub headCommand : ℕ
+headCommand = 0x11
+
+abbrev pub potentialCommand : ℕ
+potentialCommand = 0x12
+
+abbrev pub nodeCommand : ℕ
+nodeCommand = 0x13
+
+abbrev pub stepCommand : ℕ
+stepCommand = 0x14
+
+abbrev pub endCommand : ℕ
+endCommand = 0x15
+
+-- the bytes of a potential's number, and of the masks of a step
+abbrev pub potentialWidth : ℕ
+potentialWidth = 8
+
+abbrev pub masksWidth : ℕ
+masksWidth = maxTasks
+
+-- the bytes of the head, of a potential, of the cycle's start and of a step, each with its command
+abbrev pub headSize : ℕ
+headSize = 11
+
+abbrev pub potentialSize : ℕ
+potentialSize = 1 + potentialWidth
+
+abbrev pub cycleSize : ℕ
+cycleSize = 3
+
+abbrev pub stepSize : ℕ
+stepSize = 2 + masksWidth
+
+-- the fraction and the number of potentials in the head, and the node of a cycle that starts at a place
+abbrev pub pIn : List ℕ → ℕ
+pIn bs = number (part bs 1 4)
+
+abbrev pub qIn : List ℕ → ℕ
+qIn bs = number (part bs 5 4)
+
+abbrev pub countIn : List ℕ → ℕ
+countIn bs = number (part bs 9 2)
+
+abbrev pub nodeIn : List ℕ → ℕ → ℕ
+nodeIn bs at = number (part bs (at + 1) 2)
+
+-- the potential, and the step, whose command is at a place
+abbrev pub potentialIn : List ℕ → ℕ → ℤ
+potentialIn bs at = signed (number (part bs (at + 1) potentialWidth))
+
+abbrev pub stepIn : List ℕ → ℕ → Step
+stepIn bs at = record { label = getD bs (at + 1) 0; masks = part bs (at + 2) masksWidth }
+
+-- n items of a size, one after another from a place on
+unfoldable pub items : {A : Type 0} → (ℕ → A) → ℕ → ℕ → ℕ → List A
+items item from size n = map (λ i. item (from + size * i)) (upFrom 0 n)
+
+abbrev pub potentialsIn : List ℕ → ℕ → List ℤ
+potentialsIn bs n = items (potentialIn bs) headSize potentialSize n
+
+abbrev pub stepsIn : List ℕ → ℕ → ℕ → List Step
+stepsIn bs from n = items (stepIn bs) from stepSize n
+
+-- the certificate with these parts of the bytes
+abbrev pub certificateOf : List ℕ → Parts → Certificate
+certificateOf bs c = record { p = c .p; q = c .q; potentials = potentialsIn bs (c .count); node = c .node; steps = stepsIn bs (c .from) (c .steps) }
+
+abbrev pub formOf : List ℕ → Form → Option Certificate
+formOf bs Fault = none
+formOf bs (Read c) = some (certificateOf bs c)
+
+-- the bytes are the certificate with these parts
+abbrev pub IsRead : List ℕ → Parts → Type 0
+IsRead bs c = readCertificate bs ≡ some (certificateOf bs c)
+
+-- the bytes are a certificate with a potential i
+pub record HasPotential (bs : List ℕ) (i : ℕ) : Type 0 where
+  pub certificate : Certificate
+  pub read : readCertificate bs ≡ some certificate
+  pub below : i < length (certificate .potentials)
+
+-- the step j
+abbrev pub stepAt : List Step → ℕ → Step
+stepAt ss j = getD ss j (record { label = 0; masks = [] })
+
+-- the items of a run, and the bytes after them
+abbrev pub runOf : {A : Type 0} → List ℕ → (ℕ → A) → ℕ → ℕ → Run → Option (Parsed (List A))
+runOf bs item from size run.Fault = none
+runOf bs item from size (run.Items n at) = some (record { value = items item from size n; rest = drop at bs })
+
+-- a run ends within the bytes
+abbrev pub Inside : List ℕ → Run → Type 0
+Inside bs run.Fault = Unit {0}
+Inside bs (run.Items n at) = at ≤ length bs
+
+-- the certificate whose cycle starts at a place, after n potentials
+abbrev pub cycleFrom : List ℕ → ℕ → ℕ → ℕ → ℕ → Option Certificate
+cycleFrom bs p q n at =
+    let rest = drop at bs in
+    cond (has rest nodeCommand cycleSize) (withSteps p q (potentialsIn bs n) (nodeIn rest 0) (readSteps maxSteps (drop cycleSize rest))) none
+
+-- the pieces that are written of the head, of the cycle's start and of the end
+abbrev pub headBytes : ℕ → ℕ → ℕ → List ℕ
+headBytes p q n = (headCommand ∷ bytes 4 p) ++ bytes 4 q ++ bytes 2 n
+
+abbrev pub nodeBytes : ℕ → List ℕ
+nodeBytes v = nodeCommand ∷ bytes 2 v
+
+abbrev pub endBytes : List ℕ
+endBytes = endCommand ∷ []
+
+-- ---- the fraction
+
+abbrev pub permilleOf : Permille → Option ℕ
+permilleOf permille.None = none
+permilleOf (permille.Some n) = some n

@@ -1,0 +1,306 @@
+// Certificates: the form read in place and written, and the fraction.
+ghost use mathlib.Core.Path.{_≡_};
+ghost use mathlib.Core.Bool.{cond};
+ghost use mathlib.Core.List.{_∷_};
+ghost use mathlib.Core.Option.{none, some};
+ghost use Prim.Native.Nat.{_+_, _*_, _≤_, _<_};
+ghost use lib.ListN.{length, drop};
+ghost use Rattle.model.specs.Limits.{maxSteps};
+ghost use Rattle.model.specs.Bytes.{bytes, complement, overwrite};
+ghost use Rattle.model.specs.Check as check-model;
+ghost use Rattle.model.specs.Certificate as model;
+ghost use Rattle.certificate.specs.View.{potentialCommand, stepCommand, potentialWidth, cycleSize, headSize, potentialSize, stepSize, potentialIn, stepIn, certificateOf, formOf, runOf, Inside, IsRead, HasPotential, stepAt, cycleFrom, headBytes, nodeBytes, endBytes, permilleOf};
+
+// The bytes of the head, of a potential, of the cycle's start and of a step, each with its command.
+pub const HEAD_SIZE: usize = 11;
+
+pub const POTENTIAL_SIZE: usize = 9;
+
+pub const CYCLE_SIZE: usize = 3;
+
+pub const STEP_SIZE: usize = 6;
+
+// The bytes of a step's masks.
+pub const MASKS_SIZE: usize = 4;
+
+const MAX_NODES: usize = 1024;
+
+const MAX_STEPS: usize = 1024;
+
+const MAX_P: u32 = 261120;
+
+const MAX_Q: u32 = 1044480;
+
+// A certificate's numbers, and where its lists stand: `count` potentials after the head, and `steps`
+// steps from the place `from` on.
+pub struct Parts {
+    pub p: u32,
+    pub q: u32,
+    pub count: usize,
+    pub node: usize,
+    pub from: usize,
+    pub steps: usize,
+}
+
+pub enum Form {
+    Fault,
+    Read(Parts),
+}
+
+// So many items, and the place after them.
+enum Run {
+    Fault,
+    Items(usize, usize),
+}
+
+// 1000 p / q rounded down, or none for 1/0.
+pub enum Permille {
+    None,
+    Some(u64),
+}
+
+// Whether a command stands at a place, with n bytes in all.
+fn has(s: &[u8], at: usize, command: u8, n: usize) -> bool
+    requires { ⌜ (at ≤ length (now s)) × (0 < n) ⌝ }
+    ensures { λ b. ⌜ b ≡ model.has (drop at (now (s .entry))) command n ⌝ }
+{
+    if s.len() - at < n {
+        return false;
+    }
+    s[at] == command
+}
+
+// The potentials, n of them.
+fn potentials(s: &[u8], n: usize) -> Run
+    requires { ⌜ headSize ≤ length (now s) ⌝ }
+    ensures { λ r. ⌜ Inside (now (s .entry)) r ⌝ }
+    ensures { λ r. ⌜ runOf (now (s .entry)) (potentialIn (now (s .entry))) headSize potentialSize r ≡ model.readPotentials n (drop headSize (now (s .entry))) ⌝ }
+{
+    let mut i = 0;
+    let mut at = HEAD_SIZE;
+    while i < n {
+        if !has(s, at, 0x12, POTENTIAL_SIZE) {
+            return Run::Fault;
+        }
+        at += POTENTIAL_SIZE;
+        i += 1;
+    }
+    Run::Items(i, at)
+}
+
+// The steps from a place on, at most so many as a cycle has.
+fn steps(s: &[u8], from: usize) -> Run
+    requires { ⌜ from ≤ length (now s) ⌝ }
+    ensures { λ r. ⌜ Inside (now (s .entry)) r ⌝ }
+    ensures { λ r. ⌜ runOf (now (s .entry)) (stepIn (now (s .entry))) from stepSize r ≡ model.readSteps maxSteps (drop from (now (s .entry))) ⌝ }
+{
+    let mut i = 0;
+    let mut at = from;
+    while i < MAX_STEPS {
+        if !has(s, at, 0x14, 1) {
+            return Run::Items(i, at);
+        }
+        if s.len() - at < STEP_SIZE {
+            return Run::Fault;
+        }
+        at += STEP_SIZE;
+        i += 1;
+    }
+    Run::Items(i, at)
+}
+
+// The parts, if the end stands at a place and nothing after it.
+fn ended(s: &[u8], at: usize, parts: Parts) -> Form
+    requires { ⌜ at ≤ length (now s) ⌝ }
+    ensures { λ r. ⌜ formOf (now (s .entry)) r ≡ cond (model.isEnd (drop at (now (s .entry)))) (some (certificateOf (now (s .entry)) parts)) none ⌝ }
+{
+    if s.len() - at != 1 {
+        return Form::Fault;
+    }
+    if s[at] != 0x15 {
+        return Form::Fault;
+    }
+    Form::Read(parts)
+}
+
+// A cycle from a place on, after so many potentials.
+fn cycle(s: &[u8], p: u32, q: u32, count: usize, at: usize) -> Form
+    requires { ⌜ at ≤ length (now s) ⌝ }
+    ensures { λ r. ⌜ formOf (now (s .entry)) r ≡ cycleFrom (now (s .entry)) p q count at ⌝ }
+{
+    if !has(s, at, 0x13, CYCLE_SIZE) {
+        return Form::Fault;
+    }
+    let node = words::read_u16(s, at + 1) as usize;
+    let from = at + CYCLE_SIZE;
+    let Run::Items(n, end) = steps(s, from) else {
+        return Form::Fault;
+    };
+    if n == 0 {
+        return Form::Fault;
+    }
+    ended(
+        s,
+        end,
+        Parts {
+            p,
+            q,
+            count,
+            node,
+            from,
+            steps: n,
+        },
+    )
+}
+
+// The certificate that the bytes are.
+pub fn read(s: &[u8]) -> Form
+    ensures { λ r. ⌜ formOf (now (s .entry)) r ≡ model.readCertificate (now (s .entry)) ⌝ }
+{
+    if !has(s, 0, 0x11, HEAD_SIZE) {
+        return Form::Fault;
+    }
+    let p = words::read_u32(s, 1);
+    let q = words::read_u32(s, 5);
+    let n = words::read_u16(s, 9) as usize;
+    if n < 1 {
+        return Form::Fault;
+    }
+    if MAX_NODES < n {
+        return Form::Fault;
+    }
+    let Run::Items(count, at) = potentials(s, n) else {
+        return Form::Fault;
+    };
+    if q != 0 {
+        return cycle(s, p, q, count, at);
+    }
+    ended(
+        s,
+        at,
+        Parts {
+            p,
+            q,
+            count,
+            node: 0,
+            from: at,
+            steps: 0,
+        },
+    )
+}
+
+// The potential i of a certificate.
+pub fn potential(s: &[u8], i: usize) -> i64
+    requires { ⌜ HasPotential (now s) i ⌝ }
+    ensures { λ z. ⌜ ((c : model.Certificate) → model.readCertificate (now (s .entry)) ≡ some c → z ≡ check-model.potentialAt (c .potentials) i) ⌝ }
+{
+    words::read_i64(s, HEAD_SIZE + POTENTIAL_SIZE * i + 1)
+}
+
+// The label of the step j.
+pub fn step_label(s: &[u8], parts: Parts, j: usize) -> u8
+    requires { ⌜ IsRead (now s) parts × (j < parts .steps) ⌝ }
+    ensures { λ r. ⌜ r ≡ stepAt (certificateOf (now (s .entry)) parts .steps) j .label ⌝ }
+{
+    let from = parts.from;
+    s[from + STEP_SIZE * j + 1]
+}
+
+// The masks of the step j.
+pub fn step_masks(s: &[u8], parts: Parts, j: usize) -> [u8; 4]
+    requires { ⌜ IsRead (now s) parts × (j < parts .steps) ⌝ }
+    ensures { λ r. ⌜ r ≡ stepAt (certificateOf (now (s .entry)) parts .steps) j .masks ⌝ }
+{
+    let from = parts.from;
+    let mut masks = [0u8; 4];
+    words::copy(s, from + STEP_SIZE * j + 2, &mut masks, 0, MASKS_SIZE);
+    masks
+}
+
+// The greatest common divisor.
+pub fn gcd(a: u32, b: u32) -> u32
+    ensures { λ r. ⌜ r ≡ check-model.gcd a b ⌝ }
+{
+    let mut x = a;
+    let mut y = b;
+    while y != 0 {
+        let r = x % y;
+        x = y;
+        y = r;
+    }
+    x
+}
+
+// Whether a fraction is 1/0 or in lowest terms within the limits.
+pub fn fraction_ok(p: u32, q: u32) -> bool
+    ensures { λ b. ⌜ b ≡ check-model.fractionOk p q ⌝ }
+{
+    if q == 0 {
+        return p == 1;
+    }
+    if MAX_P < p {
+        return false;
+    }
+    if MAX_Q < q {
+        return false;
+    }
+    gcd(p, q) == 1
+}
+
+// The fraction in thousandths, rounded down.
+pub fn thousandths(p: u32, q: u32) -> Permille
+    ensures { λ r. ⌜ permilleOf r ≡ check-model.thousandths p q ⌝ }
+{
+    if q == 0 {
+        return Permille::None;
+    }
+    Permille::Some(1000 * p as u64 / q as u64)
+}
+
+// Writes the head, for n potentials.
+pub fn write_head(out: &mut [u8], p: u32, q: u32, n: u16)
+    requires { ⌜ headSize ≤ length (now out) ⌝ }
+    ensures { λ _. ⌜ now (out .exit) ≡ overwrite (now (out .entry)) 0 (headBytes p q n) ⌝ }
+{
+    out[0] = 0x11;
+    words::write_u32(out, 1, p);
+    words::write_u32(out, 5, q);
+    words::write_u16(out, 9, n);
+}
+
+// Writes the potential i.
+pub fn write_potential(out: &mut [u8], i: usize, z: i64)
+    requires { ⌜ headSize + potentialSize * i + potentialSize ≤ length (now out) ⌝ }
+    ensures { λ _. ⌜ now (out .exit) ≡ overwrite (now (out .entry)) (headSize + potentialSize * i) (potentialCommand ∷ bytes potentialWidth (complement z)) ⌝ }
+{
+    let at = HEAD_SIZE + POTENTIAL_SIZE * i;
+    out[at] = 0x12;
+    words::write_i64(out, at + 1, z);
+}
+
+// Writes the node where the cycle starts.
+pub fn write_cycle_head(out: &mut [u8], at: usize, node: u16)
+    requires { ⌜ at + cycleSize ≤ length (now out) ⌝ }
+    ensures { λ _. ⌜ now (out .exit) ≡ overwrite (now (out .entry)) at (nodeBytes node) ⌝ }
+{
+    out[at] = 0x13;
+    words::write_u16(out, at + 1, node);
+}
+
+// Writes a step.
+pub fn write_step(out: &mut [u8], at: usize, label: u8, masks: [u8; 4])
+    requires { ⌜ at + stepSize ≤ length (now out) ⌝ }
+    ensures { λ _. ⌜ now (out .exit) ≡ overwrite (now (out .entry)) at (stepCommand ∷ label ∷ masks) ⌝ }
+{
+    out[at] = 0x14;
+    out[at + 1] = label;
+    words::copy(&masks, 0, out, at + 2, MASKS_SIZE);
+}
+
+// Writes the end.
+pub fn write_end(out: &mut [u8], at: usize)
+    requires { ⌜ at < length (now out) ⌝ }
+    ensures { λ _. ⌜ now (out .exit) ≡ overwrite (now (out .entry)) at endBytes ⌝ }
+{
+    out[at] = 0x15;
+}
