@@ -1,3 +1,4 @@
 pub mod View
 pub mod Tables
 pub mod Notes
+pub mod Choices

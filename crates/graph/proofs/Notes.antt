@@ -19,7 +19,7 @@ use Rattle.policy.proofs.Lists.{length-table}
 use Rattle.words.proofs.Memory.{overwrite-length, overwrite-part, overwrite-outside, overwrite-frame, overwrite-join}
 use Rattle.words.proofs.Numbers.{bytes-length}
 use Rattle.words.proofs.Words.{number-overwrite}
-use Rattle.graph.specs.Outcomes.{patternCount, Outcome, Best, Notes, none, note, scoreBytes, patternBytes, bestBytes, orderAt, noteRoom, bestIn, patternIn, notesIn, noted, Tallied, Room, Noting, ChosenTo, outcomeIn}
+use Rattle.graph.specs.Outcomes.{patternCount, Outcome, Best, Notes, none, note, scoreBytes, patternBytes, bestBytes, orderAt, noteRoom, bestIn, patternIn, notesIn, noted, Tallied, Room, Noting, InBounds, outcomeIn}
 use Rattle.graph.specs.declared.Chosen.{Chosen}
 use Rattle.graph.proofs.Tables.{table-same, table-set, table-more, length-keep-set}
 
@@ -161,7 +161,7 @@ module _ (m : List ℕ) (count : ℕ) (room : noteRoom ≤ length m) (few : coun
 
 -- ---- noting a choice's outcome in memory
 
-module _ (m : List ℕ) (count : ℕ) (r : Room m count) (c : Chosen) (h : ChosenTo maxTasks c) where
+module _ (m : List ℕ) (count : ℕ) (r : Room m count) (c : Chosen) (h : InBounds c) where
   abbrev pattern : ℕ
   pattern = c .pattern / 2
 
@@ -176,7 +176,7 @@ module _ (m : List ℕ) (count : ℕ) (r : Room m count) (c : Chosen) (h : Chose
   below = omega (arith, h .pattern)
 
   small : c .gain + 1 < 256 ^ scoreBytes
-  small = omega (arith, h .gain)
+  small = omega (arith, h .gain, h .task)
 
   best-size : length (before .best) ≡ patternCount
   unfolding notesIn

@@ -2,7 +2,7 @@
 use mathlib.Core.Path.{_≡_}
 use mathlib.Core.Bool.{Bool, cond}
 use mathlib.Core.List.{List, [], _∷_, _++_, map, foldl}
-use Prim.Native.Nat.{ℕ, suc, _+_, _-_, _*_, _/_, _^_, _<_, _≤_}
+use Prim.Native.Nat.{ℕ, _+_, _-_, _*_, _/_, _^_, _<_, _≤_}
 use lib.Bits.{bitAnd, bitOr}
 use lib.Dec.{leb, ltb, eqb}
 use lib.ListN.{length, getD, set, drop, replicate}
@@ -12,6 +12,7 @@ use Rattle.model.specs.Limits.{maxTasks, maxWindow, maxValue}
 use Rattle.model.specs.Lists.{keep, flatMap, upFrom}
 use Rattle.model.specs.Masks.{maskCount, maskTable}
 use Rattle.model.specs.Plan.{Task}
+use Rattle.model.specs.Slot.{noTask}
 use Rattle.plan.specs.View.{tasksOf}
 use Rattle.policy.specs.View.{Tasks, TasksInRange}
 use Rattle.graph.specs.declared.Release.{Release}
@@ -128,17 +129,19 @@ pub record Released (r : Release) : Type 0 where
   pub size : length (tasksIn r) ≡ r .count
 
 -- what masks for the first tasks leave
-pub record ChosenTo (task : ℕ) (c : Chosen) : Type 0 where
+pub record InBounds (c : Chosen) : Type 0 where
+  pub task : c .task ≤ maxTasks
   pub pattern : c .pattern < maskCount
-  pub gain : c .gain ≤ task * maxValue
+  pub gain : c .gain ≤ c .task * maxValue
   pub masks : length (c .masks) ≡ maxTasks
 
--- the mask m for the task t, whose place is task
-abbrev pub chosenWith : Task → ℕ → Chosen → ℕ → Chosen
-chosenWith t task c m = record {
+-- the mask m for the next task, t
+abbrev pub chosenWith : Task → Chosen → ℕ → Chosen
+chosenWith t c m = record {
+  task = c .task + 1;
   pattern = bitOr (c .pattern) m;
   gain = c .gain + cond (eqb m 0) 0 (t .value);
-  masks = set (c .masks) task m;
+  masks = set (c .masks) (c .task) m;
 }
 
 abbrev pub outcomeIn : Chosen → Outcome
@@ -147,23 +150,32 @@ outcomeIn c = record { pattern = c .pattern / 2; gain = c .gain; masks = c .mask
 -- masks for the tasks from a place on
 abbrev pub placed : List ℕ → ℕ → List ℕ → List ℕ
 placed masks task [] = masks
-placed masks task (m ∷ ms) = placed (set masks task m) (suc task) ms
+placed masks task (m ∷ ms) = placed (set masks task m) (task + 1) ms
 
-abbrev pub outcomeFrom : Tasks → ℕ → Chosen → List ℕ → Outcome
-outcomeFrom ts task c ms = record {
+-- the outcome of masks for the next tasks
+abbrev pub outcomeFrom : Tasks → Chosen → List ℕ → Outcome
+outcomeFrom ts c ms = record {
   pattern = joined (c .pattern) ms / 2;
   gain = c .gain + worth ts ms;
-  masks = placed (c .masks) task ms;
+  masks = placed (c .masks) (c .task) ms;
 }
 
--- the outcomes of the choices for the tasks from a place on
-unfoldable pub outcomesFrom : Tasks → ℕ → ℕ → Chosen → List Outcome
-outcomesFrom ts l task c = map (outcomeFrom ts task c) (choices ts l (c .pattern))
+-- the outcomes of the choices for the next tasks, with their bits of the label
+unfoldable pub outcomesFrom : Tasks → ℕ → Chosen → List Outcome
+outcomesFrom ts l c = map (outcomeFrom ts c) (choices ts l (c .pattern))
 
--- the same, with these masks for the first of them
-unfoldable pub outcomesWith : Task → Tasks → ℕ → ℕ → Chosen → List ℕ → List Outcome
-outcomesWith t ts l task c ms = flatMap (λ m. outcomesFrom ts l (suc task) (chosenWith t task c m)) ms
+-- the same with these masks for the next task, t
+unfoldable pub outcomesWith : Task → Tasks → ℕ → Chosen → List ℕ → List Outcome
+outcomesWith t ts l c ms = flatMap (λ m. outcomesFrom ts l (chosenWith t c m)) ms
 
 -- the masks of the table from at up to end that are clear of the pattern
-abbrev pub clearIn : ℕ → ℕ → ℕ → List ℕ
+unfoldable pub clearIn : ℕ → ℕ → ℕ → List ℕ
 clearIn taken at end = keep (λ m. eqb (bitAnd m taken) 0) (part maskTable at (end - at))
+
+-- what is noted for the tasks from the next on, and for masks of the next
+abbrev pub nextOutcomes : Release → Chosen → List Outcome
+nextOutcomes r c = outcomesFrom (drop (c .task) (tasksIn r)) (r .label / 2 ^ c .task) c
+
+abbrev pub maskOutcomes : Release → Chosen → ℕ → ℕ → List Outcome
+maskOutcomes r c at end =
+    outcomesWith (getD (tasksIn r) (c .task) noTask) (drop (c .task + 1) (tasksIn r)) (r .label / 2 ^ (c .task + 1)) c (clearIn (c .pattern) at end)

@@ -3,14 +3,15 @@ use plan::Task;
 ghost use mathlib.Core.Path.{_≡_};
 ghost use mathlib.Core.Bool.{cond};
 ghost use mathlib.Core.List.{[], _∷_, _++_};
-ghost use Prim.Native.Nat.{_+_, _*_, _≤_, _<_};
+ghost use Prim.Native.Nat.{_+_, _/_, _%_, _^_, _≤_, _<_};
 ghost use lib.Dec.{eqb};
-ghost use lib.ListN.{length};
+ghost use lib.ListN.{length, getD};
 ghost use Rattle.model.specs.Bytes.{bytes, overwrite};
 ghost use Rattle.model.specs.Limits.{maxTasks, maxValue};
 ghost use Rattle.model.specs.Masks.{maskCount};
+ghost use Rattle.model.specs.Slot.{noTask};
 ghost use Rattle.plan.specs.View.{taskOf};
-ghost use Rattle.graph.specs.Outcomes.{scoreBytes, bestBytes, Room, Noting, ChosenTo, chosenWith, outcomeIn};
+ghost use Rattle.graph.specs.Outcomes.{scoreBytes, bestBytes, Room, Noting, tasksIn, Released, InBounds, chosenWith, outcomeIn, nextOutcomes, maskOutcomes};
 ghost use Rattle.graph.specs.View.{Starts};
 
 // A node: the cells of the policy's jobs, the pattern of taken slots, and the automaton's state.
@@ -69,8 +70,9 @@ pub struct Release {
     pub label: u8,
 }
 
-// The pattern, the gain and the masks, after masks for the first tasks.
+// Masks for the tasks before `task`: the pattern and the gain with them, and the masks.
 struct Chosen {
+    task: usize,
     pattern: u8,
     gain: u32,
     masks: [u8; MAX_TASKS],
@@ -86,16 +88,20 @@ fn worth(task: Task, m: u8) -> u32
     task.value as u32
 }
 
-// A mask for the task at place i joins.
-fn with_mask(chosen: Chosen, i: usize, task: Task, m: u8) -> Chosen
-    requires { ⌜ (i < maxTasks) × ChosenTo i chosen × (m < maskCount) ⌝ }
-    ensures { λ r. ⌜ (r ≡ chosenWith (taskOf task) i chosen m) × ChosenTo (i + 1) r ⌝ }
+// A mask for the next task joins.
+fn with_mask(chosen: Chosen, task: Task, m: u8) -> Chosen
+    requires { ⌜ InBounds chosen × (chosen .task < maxTasks) × (m < maskCount) ⌝ }
+    ensures { λ r. ⌜ (r ≡ chosenWith (taskOf task) chosen m) × InBounds r ⌝ }
 {
+    let i = chosen.task;
     let mut masks = chosen.masks;
     masks[i] = m;
+    let next = i + 1;
+    let gain = chosen.gain + worth(task, m);
     Chosen {
+        task: next,
         pattern: chosen.pattern | m,
-        gain: chosen.gain + worth(task, m),
+        gain,
         masks,
     }
 }
@@ -111,7 +117,7 @@ fn write_best(memory: &mut [u8], at: usize, score: u32, masks: [u8; MAX_TASKS])
 
 // Notes the outcome of a choice: the joined pattern moves down one place.
 fn note(memory: &mut [u8], count: usize, chosen: Chosen) -> usize
-    requires { ⌜ Room (now memory) count × ChosenTo maxTasks chosen ⌝ }
+    requires { ⌜ Room (now memory) count × InBounds chosen ⌝ }
     ensures { λ r. ⌜ Noting (outcomeIn chosen ∷ []) (now (memory .entry)) count (now (memory .exit)) r ⌝ }
 {
     let pattern = chosen.pattern >> 1;
@@ -128,4 +134,66 @@ fn note(memory: &mut [u8], count: usize, chosen: Chosen) -> usize
     }
     words::write_u16(memory, ORDER_AT + count * PATTERN_BYTES, pattern as u16);
     count + 1
+}
+
+fn task_at(release: Release, i: usize) -> Task
+    requires { ⌜ Released release × (i < release .count) ⌝ }
+    ensures { λ r. ⌜ taskOf r ≡ getD (tasksIn release) i noTask ⌝ }
+{
+    let tasks = release.tasks;
+    tasks[i]
+}
+
+fn is_released(label: u8, i: usize) -> bool
+    requires { ⌜ i < maxTasks ⌝ }
+    ensures { λ r. ⌜ r ≡ eqb (label / 2 ^ i % 2) 1 ⌝ }
+{
+    (label >> i) % 2 == 1
+}
+
+// Notes the outcomes of the choices for the next tasks: first with no mask for the next one, then,
+// if it is released, with the masks of its work within its window.
+fn note_task(release: Release, chosen: Chosen, memory: &mut [u8], count: usize) -> usize
+    requires { ⌜ Released release × InBounds chosen × (chosen .task ≤ release .count) × Room (now memory) count ⌝ }
+    ensures { λ r. ⌜ Noting (nextOutcomes release chosen) (now (memory .entry)) count (now (memory .exit)) r ⌝ }
+{
+    let i = chosen.task;
+    if i == release.count {
+        return note(memory, count, chosen);
+    }
+    let idle = note_masks(release, chosen, 0, 1, memory, count);
+    if !is_released(release.label, i) {
+        return idle;
+    }
+    let task = task_at(release, i);
+    let work = task.work as usize;
+    let window = task.window as usize;
+    let start = masks::group_start(work);
+    let end = masks::group_end(work, window);
+    note_masks(release, chosen, start, end, memory, idle)
+}
+
+// Notes the outcomes of the choices with a mask of the table, from `at` up to `end`, for the next task.
+fn note_masks(
+    release: Release,
+    chosen: Chosen,
+    at: usize,
+    end: usize,
+    memory: &mut [u8],
+    count: usize,
+) -> usize
+    requires { ⌜ Released release × InBounds chosen × (chosen .task < release .count) × (at ≤ end) × (end ≤ maskCount) × Room (now memory) count ⌝ }
+    ensures { λ r. ⌜ Noting (maskOutcomes release chosen at end) (now (memory .entry)) count (now (memory .exit)) r ⌝ }
+{
+    if at == end {
+        return count;
+    }
+    let m = masks::mask(at);
+    if m & chosen.pattern != 0 {
+        return note_masks(release, chosen, at + 1, end, memory, count);
+    }
+    let task = task_at(release, chosen.task);
+    let next = with_mask(chosen, task, m);
+    let after = note_task(release, next, memory, count);
+    note_masks(release, chosen, at + 1, end, memory, after)
 }

@@ -17,24 +17,28 @@ array-write-masks c = search needs
 worth-requires : tie.Need-worth-requires
 worth-requires c κs = search needs
 
-add-t10 : tie.Need-add-t10
-add-t10 c = search needs
+add-next : tie.Need-add-next
+add-next c = search needs
 
-more : Chosen → ℕ → ℕ → ℕ → Chosen
-more chosen i m gain = record { pattern = bitOr (chosen .pattern) m; gain = chosen .gain + gain; masks = set (chosen .masks) i m }
+add-gain : tie.Need-add-gain
+add-gain c = search needs
+
+more : Chosen → ℕ → ℕ → Chosen
+more chosen m gain = record { task = chosen .task + 1; pattern = bitOr (chosen .pattern) m; gain = chosen .gain + gain; masks = set (chosen .masks) (chosen .task) m }
 
 returns : tie.Need-returns
 unfolding more
 returns c =
     let a = c .before .before .before .before .args in
     let p = c .before .before .before .before .pre in (
-      ap (more (a .chosen) (a .i) (a .m)) (c .before .worth .ensures .0),
+      ap (more (a .chosen) (a .m)) (c .before .before .worth .ensures .0),
       record {
-        pattern = or-lt maxWindow (a .chosen .pattern) (a .m) (p .1 .pattern) (p .2);
-        gain = omega (arith, p .1 .gain, c .before .worth .ensures .1);
-        masks = length-set (a .chosen .masks) (a .i) (a .m) ∙ p .1 .masks;
+        task = omega arith;
+        pattern = or-lt maxWindow (a .chosen .pattern) (a .m) (p .0 .pattern) (p .2);
+        gain = omega (arith, p .0 .gain, c .before .before .worth .ensures .1);
+        masks = length-set (a .chosen .masks) (a .chosen .task) (a .m) ∙ p .0 .masks;
       },
     )
 
 pub with-mask-spec : {M : Type 1} → statement M
-with-mask-spec = tie.close (tie.spec array-write-masks worth-requires add-t10 returns)
+with-mask-spec = tie.close (tie.spec array-write-masks add-next worth-requires add-gain returns)
