@@ -2,29 +2,30 @@
 -- Assumes nothing.
 use mathlib.Core.Path.{_≡_, refl, sym, _∙_, ap, ap₂, subst}
 use mathlib.Core.Bool.{Bool, true, false, _&&_}
-use mathlib.Core.List.{List, [], _∷_, _++_, map, map-map, foldl, foldl-append, append-nil}
-use Prim.Native.Nat.{ℕ, suc, _+_, _-_, _/_, _%_, _^_, _<_, _≤_}
-use native.Mathlib.Nat.{add-zero, add-assoc}
+use mathlib.Core.List.{List, [], _∷_, _++_, map, map-map, foldl, foldl-append, List·Memᴰ, List·Memᴰ·head, List·Memᴰ·tail}
+use Prim.Native.Nat.{ℕ, zero, suc, _+_, _-_, _/_, _%_, _^_, _<_, _≤_}
+use native.Mathlib.Nat.{add-zero, zero-add, add-assoc, sub-zero, div-one}
 use native.Mathlib.Numerals.{add-one}
 use native.Mathlib.Omega.{arith}
 use lib.Bits.{bitAnd, bitOr, and-zero-l}
 use lib.Dec.{eqb}
-use lib.ListN.{length, getD, drop, drop-of-length-le}
+use lib.ListN.{length, getD, set, drop, replicate, length-append, drop-of-length-le}
 use lib.Pow.{shr-shr}
-use lib.Seq.{drop-cons}
+use lib.Seq.{drop-cons, set-append-seam, append-snoc}
 use borrow.Author.Tests.{eq-eqb, ne-eqb}
 use Rattle.model.specs.Bytes.{part}
-use Rattle.model.specs.Graph.{choices}
-use Rattle.model.specs.Limits.{maxWindow}
+use Rattle.model.specs.Graph.{choices, joined, worth}
+use Rattle.model.specs.Limits.{maxTasks, maxWindow}
 use Rattle.model.specs.Lists.{consIf, keep, flatMap, upFrom, ones}
 use Rattle.model.specs.Masks.{maskCount, group, groupsBelow, maskTable, groupStart, masksOf}
 use Rattle.model.specs.Plan.{Task}
 use Rattle.model.specs.Slot.{noTask}
 use Rattle.model.proofs.Lists.{keep-keep, flatMap-append, mem-of-flatMap, mem-getD}
 use Rattle.masks.proofs.Groups.{groupBelow, length-table, mem-group, group-below, group-below-le, groupStart-le, group-below-from-one}
+use Rattle.theory.proofs.Edges.{mem-choices}
 use Rattle.policy.specs.View.{Tasks, InRange}
 use Rattle.policy.proofs.Lists.{map-flatMap}
-use Rattle.graph.specs.Outcomes.{Outcome, note, noteRoom, notesIn, Room, Noting, tasksIn, Released, chosenWith, outcomeIn, outcomeFrom, outcomesFrom, outcomesWith, clearIn, nextOutcomes, maskOutcomes}
+use Rattle.graph.specs.Outcomes.{Outcome, note, noteRoom, notesIn, Room, Noting, tasksIn, Released, chosenWith, outcomeIn, outcomeOf, outcomes, placed, outcomeFrom, outcomesFrom, outcomesWith, clearIn, nextOutcomes, maskOutcomes}
 use Rattle.graph.specs.declared.Release.{Release}
 use Rattle.graph.specs.declared.Chosen.{Chosen}
 
@@ -176,3 +177,34 @@ module _ (r : Release) (c : Chosen) (h : Released r) where
         → maskOutcomes r c at end ≡ nextOutcomes r (chosenWith task c mask) ++ maskOutcomes r c (at + 1) end
     unfolding outcomesWith clear
     mask-take e = rw (clear-more (c .pattern) at end lt le, eq-eqb (bitAnd mask (c .pattern)) 0 e)
+
+-- ---- from the start
+
+-- masks for the tasks from a place on, where no mask stands there yet
+placed-padded : (xs ms : List ℕ) (k : ℕ) → length ms ≤ k
+    → placed (xs ++ replicate k 0) (length xs) ms ≡ xs ++ (ms ++ replicate (k - length ms) 0)
+placed-padded xs [] k h = rw sub-zero
+placed-padded xs (m ∷ ms) zero h = absurd (omega arith)
+placed-padded xs (m ∷ ms) (suc k) h =
+    let less : suc k - suc (length ms) ≡ k - length ms = omega arith in
+    let next : length xs + 1 ≡ length (xs ++ (m ∷ [])) = sym (length-append xs (m ∷ [])) in
+    rw (set-append-seam xs 0 (replicate k 0) m, next, ← append-snoc xs m (replicate k 0), less)
+    (placed-padded (xs ++ (m ∷ [])) ms k (omega arith) ∙ append-snoc xs m (ms ++ replicate (k - length ms) 0))
+
+module _ {ℓ κ} {A : Type ℓ} {B : Type κ} where
+  map-same : (f g : A → B) (l : List A) → ((a : A) → List·Memᴰ a l → f a ≡ g a) → map f l ≡ map g l
+  map-same f g [] h = refl
+  map-same f g (x ∷ l) h = ap₂ (λ y k. y ∷ k) (h x (List·Memᴰ·head refl)) (map-same f g l (λ a m. h a (List·Memᴰ·tail m)))
+
+-- no mask yet
+abbrev pub chosenNone : ℕ → Chosen
+chosenNone taken = record { task = 0; pattern = taken; gain = 0; masks = replicate maxTasks 0 }
+
+pub outcomes-start : (ts : Tasks) (l taken : ℕ) → length ts ≤ maxTasks → outcomesFrom ts (l / 2 ^ 0) (chosenNone taken) ≡ outcomes ts l taken
+unfolding outcomesFrom outcomes
+outcomes-start ts l taken few =
+    ap (λ k. map (outcomeFrom ts (chosenNone taken)) (choices ts k taken)) (div-one l)
+    ∙ map-same (outcomeFrom ts (chosenNone taken)) (outcomeOf ts taken) (choices ts l taken)
+    (λ ms m.
+    ap₂ (λ g l. record { pattern = joined taken ms / 2; gain = g; masks = l }) (zero-add (worth ts ms))
+    (placed-padded [] ms maxTasks (omega (arith, mem-choices ts l taken ms .0 m .count))))

@@ -8,20 +8,20 @@ use Prim.Native.Nat.{ℕ, suc, _+_, _-_, _*_, _/_, _^_, _<_, _≤_}
 use native.Mathlib.Decide.{decLt}
 use native.Mathlib.Omega.{arith}
 use lib.Dec.{leb, eqb}
-use lib.ListN.{length, getD, set, drop, length-drop, length-append, length-set}
-use lib.Seq.{ext-getD, getD-drop}
+use lib.ListN.{length, getD, set, drop, length-drop, replicate, length-append, length-set, length-replicate, getD-replicate}
+use lib.Seq.{ext-getD, getD-take, getD-drop}
 use borrow.Author.Tests.{lt-ltb, le-leb, lt-leb, eq-eqb, ne-eqb}
 use Rattle.model.specs.Bytes.{number, bytes, part, overwrite}
 use Rattle.model.specs.Limits.{maxTasks, maxValue}
 use Rattle.model.specs.Lists.{keep, upFrom, one}
 use Rattle.model.proofs.Lists.{length-keep-le, getD-table}
 use Rattle.policy.proofs.Lists.{length-table}
-use Rattle.words.proofs.Memory.{overwrite-length, overwrite-part, overwrite-outside, overwrite-frame, overwrite-join}
+use Rattle.words.proofs.Memory.{overwrite-length, overwrite-part, overwrite-inside, overwrite-outside, overwrite-frame, overwrite-join, part-length}
 use Rattle.words.proofs.Numbers.{bytes-length}
 use Rattle.words.proofs.Words.{number-overwrite}
-use Rattle.graph.specs.Outcomes.{patternCount, Outcome, Best, Notes, none, note, scoreBytes, patternBytes, bestBytes, orderAt, noteRoom, bestIn, patternIn, notesIn, noted, Tallied, Room, Noting, InBounds, outcomeIn}
+use Rattle.graph.specs.Outcomes.{patternCount, Outcome, Best, Notes, none, note, scoreBytes, patternBytes, bestBytes, orderAt, noteRoom, bestIn, patternIn, notesIn, noted, Tallied, Room, Noting, nothingNoted, Cleared, InBounds, outcomeIn}
 use Rattle.graph.specs.declared.Chosen.{Chosen}
-use Rattle.graph.proofs.Tables.{table-same, table-set, table-more, length-keep-set}
+use Rattle.graph.proofs.Tables.{table-same, table-set, table-const, table-more, length-keep-set}
 
 -- ---- noting an outcome, by the best that is noted for its pattern
 
@@ -242,3 +242,56 @@ module _ (m : List ℕ) (count : ℕ) (r : Room m count) (c : Chosen) (h : InBou
       ∙ sym (note-first before (outcomeIn c) score found e))
       (rest-order withOutcome count room few pattern low (free e) ∙ rest-best m count (r .room) few pattern (c .gain + 1) (c .masks) below small (h .masks))
       (overwrite-length withOutcome (orderAt + count * patternBytes) (bytes patternBytes pattern) (omega (arith, bytes-length patternBytes pattern, free e)) ∙ size)
+
+-- ---- notes that were cleared
+
+abbrev zeros : List ℕ
+zeros = replicate orderAt 0
+
+length-zeros : length zeros ≡ orderAt
+length-zeros = length-replicate {A = ℕ} orderAt 0
+
+-- a part within what was written
+part-zeros : (m : List ℕ) (at k : ℕ) → noteRoom ≤ length m → at + k ≤ orderAt → part (overwrite m 0 zeros) at k ≡ replicate k 0
+part-zeros m at k room fits =
+    ext-getD 0 (part cleared at k) (replicate k 0) (size ∙ sym (length-replicate k 0))
+    (λ i h.
+    let lt : i < k = omega (arith, size) in
+    getD-take k (drop at cleared) i 0 lt ∙ getD-drop at cleared i 0 ∙ zero at i (omega arith) ∙ sym (getD-replicate k i 0 0 lt))
+  where
+    cleared : List ℕ
+    cleared = overwrite m 0 zeros
+
+    long : 0 + length zeros ≤ length m
+    long = omega (arith, length-zeros)
+
+    size : length (part cleared at k) ≡ k
+    size = part-length cleared at k (omega (arith, overwrite-length m 0 zeros long))
+
+    zero : (at i : ℕ) → at + i < orderAt → getD cleared (at + i) 0 ≡ 0
+    zero at i lt =
+        let e : 0 + (at + i) ≡ at + i = omega arith in
+        rw e at (overwrite-inside m 0 zeros long (at + i) (omega (arith, length-zeros)))
+        ∙ getD-replicate orderAt (at + i) 0 0 lt
+
+pub notes-cleared : (m : List ℕ) → noteRoom ≤ length m → Cleared m (overwrite m 0 zeros)
+unfolding notesIn number
+notes-cleared m room = record {
+  notes = notes;
+  rest = rest-kept m 0 zeros room (omega (arith, length-zeros));
+  room = record {
+    room = omega (arith, overwrite-length m 0 zeros (omega (arith, length-zeros)));
+    tallied = subst Tallied (sym notes) (record { tally = refl });
+  };
+}
+  where
+    cleared : List ℕ
+    cleared = overwrite m 0 zeros
+
+    notes : notesIn cleared 0 ≡ nothingNoted
+    notes =
+        ap (λ b. record { best = b; order = [] })
+        (table-const (bestIn cleared) patternCount (record { score = 0; masks = replicate maxTasks 0 })
+        (λ p h.
+        ap₂ (λ a b. record { score = number a; masks = b }) (part-zeros m (p * bestBytes) scoreBytes room (omega arith))
+        (part-zeros m (p * bestBytes + scoreBytes) maxTasks room (omega arith))))

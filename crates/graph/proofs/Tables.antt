@@ -7,7 +7,7 @@ use Prim.Native.Nat.{ℕ, zero, suc, _+_, _<_}
 use native.Mathlib.Nat.{zero-add, not-suc-le-zero, le-of-suc-le-suc}
 use native.Mathlib.Decide.{decLt}
 use native.Mathlib.Omega.{arith}
-use lib.ListN.{length, getD, set, length-set}
+use lib.ListN.{length, getD, set, replicate, length-set, length-replicate, getD-replicate}
 use lib.Seq.{ext-getD, getD-set-same, getD-set-other}
 use Rattle.model.specs.Lists.{consIf, keep, upFrom, one}
 use Rattle.model.proofs.Lists.{getD-table, upFrom-append}
@@ -40,6 +40,12 @@ module _ {ℓ} {A : Type ℓ} (f g : ℕ → A) (n : ℕ) where
           rw e (getD-table g n p (g p) below ∙ sym (getD-set-same (map f (upFrom 0 n)) p (g p) (g p) (omega (arith, length-table f n))))
 
 module _ {ℓ} {A : Type ℓ} where
+  pub table-const : (f : ℕ → A) (n : ℕ) (x : A) → ((k : ℕ) → k < n → f k ≡ x) → map f (upFrom 0 n) ≡ replicate n x
+  table-const f n x same =
+      ext-getD x (map f (upFrom 0 n)) (replicate n x) (length-table f n ∙ sym (length-replicate n x))
+      (λ k h.
+      let lt : k < n = omega (arith, length-table f n) in getD-table f n k x lt ∙ same k lt ∙ sym (getD-replicate n k x x lt))
+
   pub table-more : (f : ℕ → A) (n : ℕ) → map f (upFrom 0 (n + 1)) ≡ map f (upFrom 0 n) ++ (f n ∷ [])
   table-more f n =
       ap (map f) (upFrom-append 0 n 1) ∙ map-append f (upFrom 0 n) (upFrom (0 + n) 1)

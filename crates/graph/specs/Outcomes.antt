@@ -118,6 +118,15 @@ pub record Noting (os : List Outcome) (before : List ℕ) (count : ℕ) (after :
   pub rest : drop noteRoom after ≡ drop noteRoom before
   pub room : Room after count′
 
+-- nothing is noted, and every byte behind the notes is as it was
+abbrev pub nothingNoted : Notes
+nothingNoted = record { best = replicate patternCount (record { score = 0; masks = replicate maxTasks 0 }); order = [] }
+
+pub record Cleared (before after : List ℕ) : Type 0 where
+  pub notes : notesIn after 0 ≡ nothingNoted
+  pub rest : drop noteRoom after ≡ drop noteRoom before
+  pub room : Room after 0
+
 -- ---- the recursion over tasks and masks
 
 -- the tasks of a release

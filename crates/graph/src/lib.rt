@@ -11,7 +11,7 @@ ghost use Rattle.model.specs.Limits.{maxTasks, maxValue};
 ghost use Rattle.model.specs.Masks.{maskCount};
 ghost use Rattle.model.specs.Slot.{noTask};
 ghost use Rattle.plan.specs.View.{taskOf};
-ghost use Rattle.graph.specs.Outcomes.{scoreBytes, bestBytes, Room, Noting, tasksIn, Released, InBounds, chosenWith, outcomeIn, nextOutcomes, maskOutcomes};
+ghost use Rattle.graph.specs.Outcomes.{outcomes, scoreBytes, bestBytes, noteRoom, Room, Noting, Cleared, tasksIn, Released, InBounds, chosenWith, outcomeIn, nextOutcomes, maskOutcomes};
 ghost use Rattle.graph.specs.View.{Starts};
 
 // A node: the cells of the policy's jobs, the pattern of taken slots, and the automaton's state.
@@ -196,4 +196,27 @@ fn note_masks(
     let next = with_mask(chosen, task, m);
     let after = note_task(release, next, memory, count);
     note_masks(release, chosen, at + 1, end, memory, after)
+}
+
+// Clears the notes.
+pub fn clear_notes(memory: &mut [u8])
+    requires { ⌜ noteRoom ≤ length (now memory) ⌝ }
+    ensures { λ _. ⌜ Cleared (now (memory .entry)) (now (memory .exit)) ⌝ }
+{
+    words::fill(memory, 0, ORDER_AT, 0);
+}
+
+// Notes the outcomes of a label's choices from a pattern of taken slots; so many patterns are noted.
+pub fn note_choices(release: Release, taken: u8, memory: &mut [u8], count: usize) -> usize
+    requires { ⌜ Released release × (taken < maskCount) × Room (now memory) count ⌝ }
+    ensures { λ r. ⌜ Noting (outcomes (tasksIn release) (release .label) taken) (now (memory .entry)) count (now (memory .exit)) r ⌝ }
+{
+    let masks = [0u8; MAX_TASKS];
+    let chosen = Chosen {
+        task: 0,
+        pattern: taken,
+        gain: 0,
+        masks,
+    };
+    note_task(release, chosen, memory, count)
 }
