@@ -1,7 +1,7 @@
 -- The outcomes of a label's choices, task by task and mask by mask, and how they are noted one after another.
 -- Assumes nothing.
-use mathlib.Core.Path.{_≡_, refl, sym, _∙_, ap, ap₂, subst}
-use mathlib.Core.Bool.{Bool, true, false, _&&_}
+use mathlib.Core.Path.{_≡_, refl, sym, _∙_, ap, ap₂}
+use mathlib.Core.Bool.{Bool, true, false}
 use mathlib.Core.List.{List, [], _∷_, _++_, map, map-map, foldl, foldl-append, List·Memᴰ, List·Memᴰ·head, List·Memᴰ·tail}
 use Prim.Native.Nat.{ℕ, zero, suc, _+_, _-_, _/_, _%_, _^_, _<_, _≤_}
 use native.Mathlib.Nat.{add-zero, zero-add, add-assoc, sub-zero, div-one}
@@ -9,7 +9,7 @@ use native.Mathlib.Numerals.{add-one}
 use native.Mathlib.Omega.{arith}
 use lib.Bits.{bitAnd, bitOr, and-zero-l}
 use lib.Dec.{eqb}
-use lib.ListN.{length, getD, set, drop, replicate, length-append, drop-of-length-le}
+use lib.ListN.{length, getD, drop, replicate, length-append, drop-of-length-le}
 use lib.Pow.{shr-shr}
 use lib.Seq.{drop-cons, set-append-seam, append-snoc}
 use borrow.Author.Tests.{eq-eqb, ne-eqb}
@@ -25,7 +25,7 @@ use Rattle.masks.proofs.Groups.{groupBelow, length-table, mem-group, group-belo
 use Rattle.theory.proofs.Edges.{mem-choices}
 use Rattle.policy.specs.View.{Tasks, InRange}
 use Rattle.policy.proofs.Lists.{map-flatMap}
-use Rattle.graph.specs.Outcomes.{Outcome, note, noteRoom, notesIn, Room, Noting, tasksIn, Released, chosenWith, outcomeIn, outcomeOf, outcomes, placed, outcomeFrom, outcomesFrom, outcomesWith, clearIn, nextOutcomes, maskOutcomes}
+use Rattle.graph.specs.Outcomes.{Outcome, note, notesIn, Room, Noting, tasksIn, Released, chosenWith, outcomeIn, outcomeOf, outcomes, placed, outcomeFrom, outcomesFrom, outcomesWith, clearIn, nextOutcomes, maskOutcomes}
 use Rattle.graph.specs.declared.Release.{Release}
 use Rattle.graph.specs.declared.Chosen.{Chosen}
 

@@ -2,3 +2,4 @@ pub mod View
 pub mod Tables
 pub mod Notes
 pub mod Choices
+pub mod Outcomes

@@ -2,30 +2,28 @@
 -- Assumes nothing.
 use mathlib.Core.Path.{_≡_, refl, sym, _∙_, ap, ap₂, subst}
 use mathlib.Core.Logic.{_⊎_, inl, inr}
-use mathlib.Core.Bool.{Bool, true, false, cond}
 use mathlib.Core.List.{List, [], _∷_, _++_, map}
-use Prim.Native.Nat.{ℕ, suc, _+_, _-_, _*_, _/_, _^_, _<_, _≤_}
+use Prim.Native.Nat.{ℕ, _+_, _*_, _/_, _^_, _<_, _≤_}
 use native.Mathlib.Decide.{decLt}
 use native.Mathlib.Omega.{arith}
-use lib.Dec.{leb, eqb}
 use lib.ListN.{length, getD, set, drop, length-drop, replicate, length-append, length-set, length-replicate, getD-replicate}
 use lib.Seq.{ext-getD, getD-take, getD-drop}
 use borrow.Author.Tests.{lt-ltb, le-leb, lt-leb, eq-eqb, ne-eqb}
 use Rattle.model.specs.Bytes.{number, bytes, part, overwrite}
-use Rattle.model.specs.Limits.{maxTasks, maxValue}
+use Rattle.model.specs.Limits.{maxTasks}
 use Rattle.model.specs.Lists.{keep, upFrom, one}
 use Rattle.model.proofs.Lists.{length-keep-le, getD-table}
 use Rattle.policy.proofs.Lists.{length-table}
 use Rattle.words.proofs.Memory.{overwrite-length, overwrite-part, overwrite-inside, overwrite-outside, overwrite-frame, overwrite-join, part-length}
 use Rattle.words.proofs.Numbers.{bytes-length}
 use Rattle.words.proofs.Words.{number-overwrite}
-use Rattle.graph.specs.Outcomes.{patternCount, Outcome, Best, Notes, none, note, scoreBytes, patternBytes, bestBytes, orderAt, noteRoom, bestIn, patternIn, notesIn, noted, Tallied, Room, Noting, nothingNoted, Cleared, InBounds, outcomeIn}
+use Rattle.graph.specs.Outcomes.{patternCount, Outcome, Best, Notes, none, note, scoreBytes, patternBytes, bestBytes, orderAt, noteRoom, bestIn, patternIn, notesIn, noted, Tallied, Room, Noting, notNoted, nothingNoted, Cleared, InBounds, outcomeIn}
 use Rattle.graph.specs.declared.Chosen.{Chosen}
 use Rattle.graph.proofs.Tables.{table-same, table-set, table-const, table-more, length-keep-set}
 
 -- ---- noting an outcome, by the best that is noted for its pattern
 
-abbrev bestOf : Outcome → Best
+abbrev pub bestOf : Outcome → Best
 bestOf o = record { score = o .gain + 1; masks = o .masks }
 
 module _ (n : Notes) (o : Outcome) (s : ℕ) (is : getD (n .best) (o .pattern) none .score ≡ s) where
@@ -275,7 +273,7 @@ part-zeros m at k room fits =
         ∙ getD-replicate orderAt (at + i) 0 0 lt
 
 pub notes-cleared : (m : List ℕ) → noteRoom ≤ length m → Cleared m (overwrite m 0 zeros)
-unfolding notesIn number
+unfolding notesIn number nothingNoted
 notes-cleared m room = record {
   notes = notes;
   rest = rest-kept m 0 zeros room (omega (arith, length-zeros));
@@ -291,7 +289,7 @@ notes-cleared m room = record {
     notes : notesIn cleared 0 ≡ nothingNoted
     notes =
         ap (λ b. record { best = b; order = [] })
-        (table-const (bestIn cleared) patternCount (record { score = 0; masks = replicate maxTasks 0 })
+        (table-const (bestIn cleared) patternCount notNoted
         (λ p h.
         ap₂ (λ a b. record { score = number a; masks = b }) (part-zeros m (p * bestBytes) scoreBytes room (omega arith))
         (part-zeros m (p * bestBytes + scoreBytes) maxTasks room (omega arith))))

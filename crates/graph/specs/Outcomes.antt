@@ -119,8 +119,11 @@ pub record Noting (os : List Outcome) (before : List ℕ) (count : ℕ) (after :
   pub room : Room after count′
 
 -- nothing is noted, and every byte behind the notes is as it was
-abbrev pub nothingNoted : Notes
-nothingNoted = record { best = replicate patternCount (record { score = 0; masks = replicate maxTasks 0 }); order = [] }
+abbrev pub notNoted : Best
+notNoted = record { score = 0; masks = replicate maxTasks 0 }
+
+unfoldable pub nothingNoted : Notes
+nothingNoted = record { best = replicate patternCount notNoted; order = [] }
 
 pub record Cleared (before after : List ℕ) : Type 0 where
   pub notes : notesIn after 0 ≡ nothingNoted

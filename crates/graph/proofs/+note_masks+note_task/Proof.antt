@@ -1,12 +1,13 @@
 -- The proof of the cycle of calls {note_masks, note_task}. The measure falls by a task, and within a task by a mask.
 -- Assumes nothing.
-use mathlib.Core.Path.{_≡_, sym, ap, ap₂, _∙_, subst}
-use Prim.Native.Nat.{ℕ, suc, _+_, _-_, _*_, _<_}
+use mathlib.Core.Path.{sym, ap, ap₂, _∙_, subst}
+use Prim.Native.Nat.{ℕ, suc, _+_, _-_, _*_, _≤_, _<_}
 use native.Mathlib.Omega.{arith}
 use lib.Bits.{bitAnd}
 use borrow.Author.Needs.{needs}
 use borrow.Author.Tests.{not-true, not-false}
 use lib.ListN.{length}
+use Rattle.model.specs.Limits.{maxWindow}
 use Rattle.model.specs.Masks.{maskCount, groupStart}
 use Rattle.model.specs.Plan.{Task}
 use Rattle.masks.proofs.Groups.{groupBelow}
@@ -222,10 +223,14 @@ note-task-note-masks-requires-2 t c κs =
     let range = task-range (s .args .release) (s .args .chosen) (p .0) (omega arith) in
     let is = c .before .before .before .before .before .task-at .ensures in
     let task = c .before .before .before .before .before .task-at .result in
-    let low = group-end-low (task .work) (task .window) (omega (arith, ap (λ (k : Task). k .work) is, ap (λ (k : Task). k .window) is, range .within, range .window)) in
+    let most : task .work ≤ maxWindow = omega (arith, ap (λ (k : Task). k .work) is, range .within, range .window) in
     let at = c .before .before .group-start .ensures in
     let end = c .before .group-end .ensures in
-    (omega (arith, s .pre .0, low, end, p .2, c .before .before .before .before .before .before .before .before .before .before .before .before .if1 .left), (p .0, p .1, omega (arith, p .2, c .before .before .before .before .before .before .before .before .before .before .before .before .if1 .left), omega (arith, at, end), omega (arith, low, end), c .before .before .before .before .before .before .before .before .before .before .note-masks .ensures .room))
+    let low : c .before .group-end .result ≤ maskCount = rw end (group-end-low (task .work) _ most) in
+    let more = c .before .before .before .before .before .before .before .before .before .before .before .before .if1 .left in (
+      omega (arith, s .pre .0, low, p .2, more),
+      (p .0, p .1, omega (arith, p .2, more), omega (arith, at, end), low, c .before .before .before .before .before .before .before .before .before .before .note-masks .ensures .room),
+    )
 
 note-task-same-length-3 : (t : ℕ) → note-task-lts.Need-same-length-3 (task-claims t) (note-task-at t) note-task.Post
 note-task-same-length-3 t c = search needs

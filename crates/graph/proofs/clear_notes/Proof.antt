@@ -1,6 +1,5 @@
 -- `graph::clear_notes` meets its contract: scores and masks of 0 are no notes.
 -- Assumes nothing.
-use mathlib.Core.Path.{_≡_}
 use borrow.Author.Needs.{needs}
 use Rattle.graph.proofs.Notes.{notes-cleared}
 use Rattle.graph.proofs.clear_notes.Statement.{statement}

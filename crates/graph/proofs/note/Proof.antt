@@ -1,11 +1,8 @@
 -- `graph::note` meets its contract, by the score noted for the pattern.
 -- Assumes nothing.
-use mathlib.Core.Path.{_≡_, sym, ap, _∙_, subst}
-use mathlib.Core.List.{List, [], _∷_}
-use Prim.Native.Nat.{ℕ, _+_}
+use mathlib.Core.Path.{sym, _∙_}
 use native.Mathlib.Omega.{arith}
 use borrow.Author.Needs.{needs}
-use Rattle.graph.specs.Outcomes.{Noting, outcomeIn}
 use Rattle.graph.proofs.Notes.{few, free, noting-less, noting-better, noting-first}
 use Rattle.graph.proofs.note.Statement.{statement}
 use Rattle.graph.proofs.note.Tie as tie

@@ -1,6 +1,5 @@
 -- `graph::note_choices` meets its contract: the recursion starts with no mask.
 -- Assumes nothing.
-use mathlib.Core.Path.{_≡_}
 use borrow.Author.Needs.{needs}
 use Rattle.graph.specs.Outcomes.{tasksIn}
 use Rattle.graph.proofs.Choices.{outcomes-start}
