@@ -4,12 +4,12 @@ use mathlib.Core.Path.{_≡_, refl, sym, _∙_, ap, ap₂}
 use mathlib.Core.Bool.{Bool, true, false}
 use mathlib.Core.List.{List, [], _∷_, _++_, map, map-map, foldl, foldl-append, List·Memᴰ, List·Memᴰ·head, List·Memᴰ·tail}
 use Prim.Native.Nat.{ℕ, zero, suc, _+_, _-_, _/_, _%_, _^_, _<_, _≤_}
-use native.Mathlib.Nat.{add-zero, zero-add, add-assoc, sub-zero, div-one}
+use native.Mathlib.Nat.{add-zero, zero-add, add-assoc, div-one}
 use native.Mathlib.Numerals.{add-one}
 use native.Mathlib.Omega.{arith}
 use lib.Bits.{bitAnd, bitOr, and-zero-l}
 use lib.Dec.{eqb}
-use lib.ListN.{length, getD, drop, replicate, length-append, drop-of-length-le}
+use lib.ListN.{length, getD, take, drop, replicate, length-append, drop-of-length-le}
 use lib.Pow.{shr-shr}
 use lib.Seq.{drop-cons, set-append-seam, append-snoc}
 use borrow.Author.Tests.{eq-eqb, ne-eqb}
@@ -181,15 +181,19 @@ module _ (r : Release) (c : Chosen) (h : Released r) where
 -- ---- from the start
 
 -- masks for the tasks from a place on, where no mask stands there yet
-placed-padded : (xs ms : List ℕ) (k : ℕ) → length ms ≤ k
-    → placed (xs ++ replicate k 0) (length xs) ms ≡ xs ++ (ms ++ replicate (k - length ms) 0)
-placed-padded xs [] k h = rw sub-zero
-placed-padded xs (m ∷ ms) zero h = absurd (omega arith)
-placed-padded xs (m ∷ ms) (suc k) h =
-    let less : suc k - suc (length ms) ≡ k - length ms = omega arith in
+placed-padded : (xs ms : List ℕ) (k j : ℕ) → length ms ≤ k → k ≤ j
+    → placed (xs ++ replicate k 0) (length xs) ms ≡ xs ++ take k (ms ++ replicate j 0)
+placed-padded xs [] k j h h′ = ap (λ l. xs ++ l) (sym (take-zeros k j h′))
+  where
+    take-zeros : (k j : ℕ) → k ≤ j → take k (replicate j 0) ≡ replicate {A = ℕ} k 0
+    take-zeros zero j h = refl
+    take-zeros (suc k) zero h = absurd (omega arith)
+    take-zeros (suc k) (suc j) h = ap (λ l. 0 ∷ l) (take-zeros k j (omega arith))
+placed-padded xs (m ∷ ms) zero j h h′ = absurd (omega arith)
+placed-padded xs (m ∷ ms) (suc k) j h h′ =
     let next : length xs + 1 ≡ length (xs ++ (m ∷ [])) = sym (length-append xs (m ∷ [])) in
-    rw (set-append-seam xs 0 (replicate k 0) m, next, ← append-snoc xs m (replicate k 0), less)
-    (placed-padded (xs ++ (m ∷ [])) ms k (omega arith) ∙ append-snoc xs m (ms ++ replicate (k - length ms) 0))
+    rw (set-append-seam xs 0 (replicate k 0) m, next, ← append-snoc xs m (replicate k 0))
+    (placed-padded (xs ++ (m ∷ [])) ms k j (omega arith) (omega arith) ∙ append-snoc xs m (take k (ms ++ replicate j 0)))
 
 module _ {ℓ κ} {A : Type ℓ} {B : Type κ} where
   map-same : (f g : A → B) (l : List A) → ((a : A) → List·Memᴰ a l → f a ≡ g a) → map f l ≡ map g l
@@ -207,4 +211,4 @@ outcomes-start ts l taken few =
     ∙ map-same (outcomeFrom ts (chosenNone taken)) (outcomeOf ts taken) (choices ts l taken)
     (λ ms m.
     ap₂ (λ g l. record { pattern = joined taken ms / 2; gain = g; masks = l }) (zero-add (worth ts ms))
-    (placed-padded [] ms maxTasks (omega (arith, mem-choices ts l taken ms .0 m .count))))
+    (placed-padded [] ms maxTasks maxTasks (omega (arith, mem-choices ts l taken ms .0 m .count)) (omega arith)))

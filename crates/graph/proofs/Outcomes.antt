@@ -14,6 +14,7 @@ use lib.ListN.{length, getD, set, replicate, length-set, length-replicate, getD-
 use lib.Pow.{pow-mono}
 use lib.Seq.{getD-set-same, getD-set-other}
 use borrow.Author.Tests.{lt-ltb, eq-eqb, ne-eqb, eqb-true}
+use Rattle.model.specs.Check.{padded}
 use Rattle.model.specs.Graph.{choices, joined, worth}
 use Rattle.model.specs.Limits.{maxWindow}
 use Rattle.model.specs.Masks.{maskCount}
@@ -21,7 +22,7 @@ use Rattle.policy.specs.View.{Tasks, TasksInRange}
 use Rattle.policy.proofs.Cells.{window-low}
 use Rattle.theory.proofs.Distinct.{Distinct, distinct-snoc}
 use Rattle.theory.proofs.Edges.{mem-choices}
-use Rattle.graph.specs.Outcomes.{patternCount, Outcome, padded, outcomeOf, outcomes, Best, Notes, none, note, notedOf, notNoted, nothingNoted}
+use Rattle.graph.specs.Outcomes.{patternCount, Outcome, outcomeOf, outcomes, Best, Notes, none, note, notedOf, notNoted, nothingNoted}
 use Rattle.graph.proofs.Notes.{bestOf, note-less, note-better, note-first}
 
 abbrev pub bestAt : Notes → ℕ → Best

@@ -7,6 +7,7 @@ use lib.Bits.{bitAnd, bitOr}
 use lib.Dec.{leb, ltb, eqb}
 use lib.ListN.{length, getD, set, drop, replicate}
 use Rattle.model.specs.Bytes.{number, part}
+use Rattle.model.specs.Check.{padded}
 use Rattle.model.specs.Graph.{choices, joined, worth}
 use Rattle.model.specs.Limits.{maxTasks, maxWindow, maxValue}
 use Rattle.model.specs.Lists.{keep, flatMap, upFrom}
@@ -27,10 +28,6 @@ pub record Outcome : Type 0 where
   pub pattern : ℕ
   pub gain : ℕ
   pub masks : List ℕ
-
--- 0 is the mask of a task that is not there
-abbrev pub padded : List ℕ → List ℕ
-padded ms = ms ++ replicate (maxTasks - length ms) 0
 
 abbrev pub outcomeOf : Tasks → ℕ → List ℕ → Outcome
 outcomeOf ts taken ms = record { pattern = joined taken ms / 2; gain = worth ts ms; masks = padded ms }

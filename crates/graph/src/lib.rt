@@ -22,8 +22,14 @@ pub struct Node {
 }
 
 impl Node {
-    // The most nodes of a plan.
+    // The most nodes and tasks of a plan, the longest window, and the patterns of taken slots.
     pub const MAX_NODES: usize = 1024;
+
+    pub const MAX_TASKS: usize = 4;
+
+    pub const MAX_WINDOW: usize = 8;
+
+    pub const PATTERNS: usize = 1 << (Node::MAX_WINDOW - 1);
 
     // The policies.
     pub const EDF: u8 = 1;
@@ -47,21 +53,19 @@ impl Node {
     }
 }
 
-const MAX_TASKS: usize = 4;
+const MAX_TASKS: usize = Node::MAX_TASKS;
 
 // Notes: the best outcome of each pattern, a score and a mask for each task, and then the patterns in
 // the order of their discovery. A score is a gain and 1, and 0 for no outcome.
-const PATTERNS: usize = 128;
-
 const SCORE_BYTES: usize = 4;
 
 const PATTERN_BYTES: usize = 2;
 
 const BEST_BYTES: usize = SCORE_BYTES + MAX_TASKS;
 
-const ORDER_AT: usize = PATTERNS * BEST_BYTES;
+const ORDER_AT: usize = Node::PATTERNS * BEST_BYTES;
 
-pub const NOTE_ROOM: usize = ORDER_AT + PATTERNS * PATTERN_BYTES;
+pub const NOTE_ROOM: usize = ORDER_AT + Node::PATTERNS * PATTERN_BYTES;
 
 // The tasks of a plan, and a label.
 pub struct Release {
