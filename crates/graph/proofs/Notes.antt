@@ -159,6 +159,18 @@ module _ (m : List ℕ) (count : ℕ) (room : noteRoom ≤ length m) (few : coun
 
 -- ---- noting a choice's outcome in memory
 
+module _ (m : List ℕ) (count : ℕ) (r : Room m count) where
+  best-size : length (notesIn m count .best) ≡ patternCount
+  unfolding notesIn
+  best-size = length-table (bestIn m) patternCount
+
+  counted : count ≡ length (keep noted (notesIn m count .best))
+  unfolding notesIn
+  counted = sym (length-table (patternIn m) count) ∙ r .tallied .tally
+
+  pub few : count ≤ patternCount
+  few = omega (arith, counted, length-keep-le noted (notesIn m count .best), best-size)
+
 module _ (m : List ℕ) (count : ℕ) (r : Room m count) (c : Chosen) (h : InBounds c) where
   abbrev pattern : ℕ
   pattern = c .pattern / 2
@@ -176,29 +188,18 @@ module _ (m : List ℕ) (count : ℕ) (r : Room m count) (c : Chosen) (h : InBou
   small : c .gain + 1 < 256 ^ scoreBytes
   small = omega (arith, h .gain, h .task)
 
-  best-size : length (before .best) ≡ patternCount
-  unfolding notesIn
-  best-size = length-table (bestIn m) patternCount
-
   found : getD (before .best) pattern none .score ≡ score
   unfolding notesIn
   found = ap (λ (b : Best). b .score) (getD-table (bestIn m) patternCount pattern none below)
 
-  counted : count ≡ length (keep noted (before .best))
-  unfolding notesIn
-  counted = sym (length-table (patternIn m) count) ∙ r .tallied .tally
-
-  pub few : count ≤ patternCount
-  few = omega (arith, counted, length-keep-le noted (before .best), best-size)
-
   -- where the pattern is not noted yet, the order has room for it
   pub free : score ≡ 0 → count < patternCount
   free e =
-      let more = length-keep-set noted (before .best) pattern (record { score = 1; masks = [] }) none (omega (arith, best-size, below)) in
+      let more = length-keep-set noted (before .best) pattern (record { score = 1; masks = [] }) none (omega (arith, best-size m count r, below)) in
       omega (
         arith,
-        counted,
-        best-size,
+        counted m count r,
+        best-size m count r,
         length-keep-le noted (set (before .best) pattern (record { score = 1; masks = [] })),
         length-set (before .best) pattern (record { score = 1; masks = [] }),
         rw (found ∙ e) at more,
@@ -211,7 +212,7 @@ module _ (m : List ℕ) (count : ℕ) (r : Room m count) (c : Chosen) (h : InBou
     rest = rest;
     room = record {
       room = omega (arith, r .room);
-      tallied = subst Tallied (sym notes) (tally-note before (outcomeIn c) (omega (arith, best-size, below)) (r .tallied));
+      tallied = subst Tallied (sym notes) (tally-note before (outcomeIn c) (omega (arith, best-size m count r, below)) (r .tallied));
     };
   }
 
@@ -224,21 +225,21 @@ module _ (m : List ℕ) (count : ℕ) (r : Room m count) (c : Chosen) (h : InBou
   pub noting-better : score ≤ c .gain → (score ≡ 0 → ⊥) → Noting (outcomeIn c ∷ []) m count withOutcome count
   noting-better le ne =
       done withOutcome count
-      (notes-best m count (r .room) few pattern (c .gain + 1) (c .masks) below small (h .masks)
+      (notes-best m count (r .room) (few m count r) pattern (c .gain + 1) (c .masks) below small (h .masks)
       ∙ sym (note-better before (outcomeIn c) score found le (omega arith)))
-      (rest-best m count (r .room) few pattern (c .gain + 1) (c .masks) below small (h .masks))
-      (length-best m count (r .room) few pattern (c .gain + 1) (c .masks) below small (h .masks))
+      (rest-best m count (r .room) (few m count r) pattern (c .gain + 1) (c .masks) below small (h .masks))
+      (length-best m count (r .room) (few m count r) pattern (c .gain + 1) (c .masks) below small (h .masks))
 
   pub noting-first : score ≡ 0 → Noting (outcomeIn c ∷ []) m count (overwrite withOutcome (orderAt + count * patternBytes) (bytes patternBytes pattern)) (count + 1)
   noting-first e =
-      let size = length-best m count (r .room) few pattern (c .gain + 1) (c .masks) below small (h .masks) in
+      let size = length-best m count (r .room) (few m count r) pattern (c .gain + 1) (c .masks) below small (h .masks) in
       let room : noteRoom ≤ length withOutcome = omega (arith, size, r .room) in
       let low : pattern < 256 ^ patternBytes = omega (arith, below) in
       done (overwrite withOutcome (orderAt + count * patternBytes) (bytes patternBytes pattern)) (count + 1)
-      (notes-order withOutcome count room few pattern low (free e)
-      ∙ ap (λ (n : Notes). record { best = n .best; order = n .order ++ (pattern ∷ []) }) (notes-best m count (r .room) few pattern (c .gain + 1) (c .masks) below small (h .masks))
+      (notes-order withOutcome count room (few m count r) pattern low (free e)
+      ∙ ap (λ (n : Notes). record { best = n .best; order = n .order ++ (pattern ∷ []) }) (notes-best m count (r .room) (few m count r) pattern (c .gain + 1) (c .masks) below small (h .masks))
       ∙ sym (note-first before (outcomeIn c) score found e))
-      (rest-order withOutcome count room few pattern low (free e) ∙ rest-best m count (r .room) few pattern (c .gain + 1) (c .masks) below small (h .masks))
+      (rest-order withOutcome count room (few m count r) pattern low (free e) ∙ rest-best m count (r .room) (few m count r) pattern (c .gain + 1) (c .masks) below small (h .masks))
       (overwrite-length withOutcome (orderAt + count * patternBytes) (bytes patternBytes pattern) (omega (arith, bytes-length patternBytes pattern, free e)) ∙ size)
 
 -- ---- notes that were cleared

@@ -49,7 +49,7 @@ mul-write-u16 c =
     let m = start .args .memory .now in
     let n = start .args .count in
     let h = start .args .chosen in
-    omega (arith, few m n (start .pre .0) h (start .pre .1))
+    omega (arith, few m n (start .pre .0))
 
 add-write-u16 : tie.Need-add-write-u16
 add-write-u16 c =
@@ -57,7 +57,7 @@ add-write-u16 c =
     let m = start .args .memory .now in
     let n = start .args .count in
     let h = start .args .chosen in
-    omega (arith, few m n (start .pre .0) h (start .pre .1))
+    omega (arith, few m n (start .pre .0))
 
 cast-write-u16 : tie.Need-cast-write-u16
 cast-write-u16 c = search needs
@@ -77,7 +77,7 @@ add-result c =
     let m = start .args .memory .now in
     let n = start .args .count in
     let h = start .args .chosen in
-    omega (arith, few m n (start .pre .0) h (start .pre .1))
+    omega (arith, few m n (start .pre .0))
 
 same-length-3 : tie.Need-same-length-3
 same-length-3 c = search needs
