@@ -1,0 +1,5 @@
+pub mod View
+pub mod Tables
+pub mod Notes
+pub mod Choices
+pub mod Outcomes

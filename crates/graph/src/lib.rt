@@ -1,0 +1,226 @@
+// The graph of a plan: its nodes, and where a label leads from a node.
+use plan::Task;
+ghost use mathlib.Core.Path.{_≡_};
+ghost use mathlib.Core.Bool.{cond};
+ghost use mathlib.Core.List.{[], _∷_, _++_};
+ghost use Prim.Native.Nat.{_+_, _/_, _%_, _^_, _≤_, _<_};
+ghost use lib.Dec.{eqb};
+ghost use lib.ListN.{length, getD};
+ghost use Rattle.model.specs.Bytes.{bytes, overwrite};
+ghost use Rattle.model.specs.Limits.{maxTasks, maxValue};
+ghost use Rattle.model.specs.Masks.{maskCount};
+ghost use Rattle.model.specs.Slot.{noTask};
+ghost use Rattle.plan.specs.View.{taskOf};
+ghost use Rattle.graph.specs.Outcomes.{outcomes, scoreBytes, bestBytes, noteRoom, Room, Noting, Cleared, tasksIn, Released, InBounds, chosenWith, outcomeIn, nextOutcomes, maskOutcomes};
+ghost use Rattle.graph.specs.View.{Starts};
+
+// A node: the cells of the policy's jobs, the pattern of taken slots, and the automaton's state.
+pub struct Node {
+    pub cells: [u8; policy::CELLS],
+    pub taken: u8,
+    pub state: u8,
+}
+
+impl Node {
+    // The most nodes and tasks of a plan, the longest window, and the patterns of taken slots.
+    pub const MAX_NODES: usize = 1024;
+
+    pub const MAX_TASKS: usize = 4;
+
+    pub const MAX_WINDOW: usize = 8;
+
+    pub const PATTERNS: usize = 1 << (Node::MAX_WINDOW - 1);
+
+    // The policies.
+    pub const EDF: u8 = 1;
+
+    pub const SRT: u8 = 2;
+
+    pub const FIFO: u8 = 3;
+
+    pub const SP: u8 = 4;
+
+    // The start node: no jobs, no taken slot, state 0.
+    pub fn start() -> Node
+        ensures { λ r. ⌜ Starts r ⌝ }
+    {
+        let cells = policy::no_jobs();
+        Node {
+            cells,
+            taken: 0,
+            state: 0,
+        }
+    }
+}
+
+const MAX_TASKS: usize = Node::MAX_TASKS;
+
+// Notes: the best outcome of each pattern, a score and a mask for each task, and then the patterns in
+// the order of their discovery. A score is a gain and 1, and 0 for no outcome.
+const SCORE_BYTES: usize = 4;
+
+const PATTERN_BYTES: usize = 2;
+
+const BEST_BYTES: usize = SCORE_BYTES + MAX_TASKS;
+
+const ORDER_AT: usize = Node::PATTERNS * BEST_BYTES;
+
+pub const NOTE_ROOM: usize = ORDER_AT + Node::PATTERNS * PATTERN_BYTES;
+
+// The tasks of a plan, and a label.
+pub struct Release {
+    pub tasks: [Task; MAX_TASKS],
+    pub count: usize,
+    pub label: u8,
+}
+
+// Masks for the tasks before `task`: the pattern and the gain with them, and the masks.
+struct Chosen {
+    task: usize,
+    pattern: u8,
+    gain: u32,
+    masks: [u8; MAX_TASKS],
+}
+
+// The gain of a mask for a task.
+fn worth(task: Task, m: u8) -> u32
+    ensures { λ r. ⌜ (r ≡ cond (eqb m 0) 0 (task .value)) × (r ≤ maxValue) ⌝ }
+{
+    if m == 0 {
+        return 0;
+    }
+    task.value as u32
+}
+
+// A mask for the next task joins.
+fn with_mask(chosen: Chosen, task: Task, m: u8) -> Chosen
+    requires { ⌜ InBounds chosen × (chosen .task < maxTasks) × (m < maskCount) ⌝ }
+    ensures { λ r. ⌜ (r ≡ chosenWith (taskOf task) chosen m) × InBounds r ⌝ }
+{
+    let i = chosen.task;
+    let mut masks = chosen.masks;
+    masks[i] = m;
+    let next = i + 1;
+    let gain = chosen.gain + worth(task, m);
+    Chosen {
+        task: next,
+        pattern: chosen.pattern | m,
+        gain,
+        masks,
+    }
+}
+
+// Writes a score and masks.
+fn write_best(memory: &mut [u8], at: usize, score: u32, masks: [u8; MAX_TASKS])
+    requires { ⌜ (at + bestBytes ≤ length (now memory)) × (length masks ≡ maxTasks) ⌝ }
+    ensures { λ _. ⌜ now (memory .exit) ≡ overwrite (now (memory .entry)) at (bytes scoreBytes score ++ masks) ⌝ }
+{
+    words::write_u32(memory, at, score);
+    words::copy(&masks, 0, memory, at + SCORE_BYTES, MAX_TASKS);
+}
+
+// Notes the outcome of a choice: the joined pattern moves down one place.
+fn note(memory: &mut [u8], count: usize, chosen: Chosen) -> usize
+    requires { ⌜ Room (now memory) count × InBounds chosen ⌝ }
+    ensures { λ r. ⌜ Noting (outcomeIn chosen ∷ []) (now (memory .entry)) count (now (memory .exit)) r ⌝ }
+{
+    let pattern = chosen.pattern >> 1;
+    let gain = chosen.gain;
+    let at = pattern as usize * BEST_BYTES;
+    let score = words::read_u32(memory, at);
+    if gain < score {
+        return count;
+    }
+    let masks = chosen.masks;
+    write_best(memory, at, gain + 1, masks);
+    if score != 0 {
+        return count;
+    }
+    words::write_u16(memory, ORDER_AT + count * PATTERN_BYTES, pattern as u16);
+    count + 1
+}
+
+fn task_at(release: Release, i: usize) -> Task
+    requires { ⌜ Released release × (i < release .count) ⌝ }
+    ensures { λ r. ⌜ taskOf r ≡ getD (tasksIn release) i noTask ⌝ }
+{
+    let tasks = release.tasks;
+    tasks[i]
+}
+
+fn is_released(label: u8, i: usize) -> bool
+    requires { ⌜ i < maxTasks ⌝ }
+    ensures { λ r. ⌜ r ≡ eqb (label / 2 ^ i % 2) 1 ⌝ }
+{
+    (label >> i) % 2 == 1
+}
+
+// Notes the outcomes of the choices for the next tasks: first with no mask for the next one, then,
+// if it is released, with the masks of its work within its window.
+fn note_task(release: Release, chosen: Chosen, memory: &mut [u8], count: usize) -> usize
+    requires { ⌜ Released release × InBounds chosen × (chosen .task ≤ release .count) × Room (now memory) count ⌝ }
+    ensures { λ r. ⌜ Noting (nextOutcomes release chosen) (now (memory .entry)) count (now (memory .exit)) r ⌝ }
+{
+    let i = chosen.task;
+    if i == release.count {
+        return note(memory, count, chosen);
+    }
+    let idle = note_masks(release, chosen, 0, 1, memory, count);
+    if !is_released(release.label, i) {
+        return idle;
+    }
+    let task = task_at(release, i);
+    let work = task.work as usize;
+    let window = task.window as usize;
+    let start = masks::group_start(work);
+    let end = masks::group_end(work, window);
+    note_masks(release, chosen, start, end, memory, idle)
+}
+
+// Notes the outcomes of the choices with a mask of the table, from `at` up to `end`, for the next task.
+fn note_masks(
+    release: Release,
+    chosen: Chosen,
+    at: usize,
+    end: usize,
+    memory: &mut [u8],
+    count: usize,
+) -> usize
+    requires { ⌜ Released release × InBounds chosen × (chosen .task < release .count) × (at ≤ end) × (end ≤ maskCount) × Room (now memory) count ⌝ }
+    ensures { λ r. ⌜ Noting (maskOutcomes release chosen at end) (now (memory .entry)) count (now (memory .exit)) r ⌝ }
+{
+    if at == end {
+        return count;
+    }
+    let m = masks::mask(at);
+    if m & chosen.pattern != 0 {
+        return note_masks(release, chosen, at + 1, end, memory, count);
+    }
+    let task = task_at(release, chosen.task);
+    let next = with_mask(chosen, task, m);
+    let after = note_task(release, next, memory, count);
+    note_masks(release, chosen, at + 1, end, memory, after)
+}
+
+// Clears the notes.
+pub fn clear_notes(memory: &mut [u8])
+    requires { ⌜ noteRoom ≤ length (now memory) ⌝ }
+    ensures { λ _. ⌜ Cleared (now (memory .entry)) (now (memory .exit)) ⌝ }
+{
+    words::fill(memory, 0, ORDER_AT, 0);
+}
+
+// Notes the outcomes of a label's choices from a pattern of taken slots; so many patterns are noted.
+pub fn note_choices(release: Release, taken: u8, memory: &mut [u8], count: usize) -> usize
+    requires { ⌜ Released release × (taken < maskCount) × Room (now memory) count ⌝ }
+    ensures { λ r. ⌜ Noting (outcomes (tasksIn release) (release .label) taken) (now (memory .entry)) count (now (memory .exit)) r ⌝ }
+{
+    let masks = [0u8; MAX_TASKS];
+    let chosen = Chosen {
+        task: 0,
+        pattern: taken,
+        gain: 0,
+        masks,
+    };
+    note_task(release, chosen, memory, count)
+}
