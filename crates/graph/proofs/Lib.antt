@@ -3,3 +3,4 @@ pub mod Tables
 pub mod Notes
 pub mod Choices
 pub mod Outcomes
+pub mod Adding
