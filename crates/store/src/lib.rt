@@ -1,0 +1,67 @@
+// Rows of bytes in lent memory, numbered in order and found by their contents.
+ghost use mathlib.Core.Path.{_≡_};
+ghost use Prim.Native.Nat.{_+_, _*_, _≤_, _<_};
+ghost use lib.ListN.{length};
+ghost use Rattle.model.specs.Lists.{sameNumbers};
+ghost use Rattle.store.specs.Store.{rowBytes, maxRows, hashes, bucketsAt, chainAt, storeBytes, rowAt, rowsIn, indexIn, Distinct, hashOf, entryAt, Indexed, Cleared, Appended};
+
+// The bytes of a row, the most rows, and the number of hashes.
+pub const ROW_BYTES: usize = 30;
+
+pub const MAX_ROWS: usize = 1024;
+
+const HASHES: usize = 1024;
+
+// The rows stand first; then two bytes for each hash; then two bytes for each row.
+const BUCKETS: usize = ROW_BYTES * MAX_ROWS;
+
+const CHAIN: usize = BUCKETS + 2 * HASHES;
+
+pub const STORE_BYTES: usize = CHAIN + 2 * MAX_ROWS;
+
+// A row's hash.
+fn hash(row: &[u8; ROW_BYTES]) -> usize
+    requires { ⌜ length (now row) ≡ rowBytes ⌝ }
+    ensures { λ h. ⌜ (h ≡ hashOf (now (row .entry))) × (h < hashes) ⌝ }
+{
+    let mut h = 0;
+    let mut i = 0;
+    while i < ROW_BYTES {
+        h = (h * 31 + wide8(row[i])) % HASHES;
+        i += 1;
+    }
+    h
+}
+
+// x, at a wider type.
+fn wide8(x: u8) -> usize
+    ensures { λ r. ⌜ (r ≡ x) × (r < 256) ⌝ }
+{
+    x as usize
+}
+
+// The j-th row.
+pub fn row(m: &[u8], j: usize) -> [u8; ROW_BYTES]
+    requires { ⌜ (j < maxRows) × (storeBytes ≤ length (now m)) ⌝ }
+    ensures { λ r. ⌜ r ≡ rowAt (now (m .entry)) j ⌝ }
+{
+    let mut out = [0u8; ROW_BYTES];
+    words::copy(m, ROW_BYTES * j, &mut out, 0, ROW_BYTES);
+    out
+}
+
+// Whether the j-th row is this one.
+pub fn same_row(m: &[u8], j: usize, row: &[u8; ROW_BYTES]) -> bool
+    requires { ⌜ (j < maxRows) × (storeBytes ≤ length (now m)) × (length (now row) ≡ rowBytes) ⌝ }
+    ensures { λ r. ⌜ r ≡ sameNumbers (rowAt (now (m .entry)) j) (now (row .entry)) ⌝ }
+{
+    let at = ROW_BYTES * j;
+    let mut i = 0;
+    while i < ROW_BYTES {
+        if m[at + i] != row[i] {
+            return false;
+        }
+        i += 1;
+    }
+    true
+}
