@@ -1,3 +1,4 @@
 pub mod Index
 pub mod Rows
 pub mod Search
+pub mod Walk

@@ -65,3 +65,27 @@ pub fn same_row(m: &[u8], j: usize, row: &[u8; ROW_BYTES]) -> bool
     }
     true
 }
+
+// The number of the first of n distinct rows that is this one; n where none is.
+pub fn find(m: &[u8], n: usize, row: &[u8; ROW_BYTES]) -> usize
+    requires { ⌜ Indexed (now m) n × Distinct (rowsIn (now m) n) × (length (now row) ≡ rowBytes) ⌝ }
+    ensures { λ r. ⌜ r ≡ indexIn (rowsIn (now (m .entry)) n) (now (row .entry)) ⌝ }
+{
+    let mut next = entry(m, BUCKETS, hash(row));
+    while 0 < next {
+        let j = next - 1;
+        if same_row(m, j, row) {
+            return j;
+        }
+        next = entry(m, CHAIN, j);
+    }
+    n
+}
+
+// The i-th number of the table at a place.
+fn entry(m: &[u8], at: usize, i: usize) -> usize
+    requires { ⌜ (at + 2 * i + 2 ≤ storeBytes) × (storeBytes ≤ length (now m)) ⌝ }
+    ensures { λ r. ⌜ r ≡ entryAt (now (m .entry)) at i ⌝ }
+{
+    words::read_u16(m, at + 2 * i) as usize
+}
