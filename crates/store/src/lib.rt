@@ -2,6 +2,7 @@
 ghost use mathlib.Core.Path.{_≡_};
 ghost use Prim.Native.Nat.{_+_, _*_, _≤_, _<_};
 ghost use lib.ListN.{length};
+ghost use Rattle.model.specs.Bytes.{bytes, overwrite};
 ghost use Rattle.model.specs.Lists.{sameNumbers};
 ghost use Rattle.store.specs.Store.{rowBytes, maxRows, hashes, bucketsAt, chainAt, storeBytes, rowAt, rowsIn, indexIn, Distinct, hashOf, entryAt, Indexed, Cleared, Appended};
 
@@ -18,6 +19,14 @@ const BUCKETS: usize = ROW_BYTES * MAX_ROWS;
 const CHAIN: usize = BUCKETS + 2 * HASHES;
 
 pub const STORE_BYTES: usize = CHAIN + 2 * MAX_ROWS;
+
+// Makes the index that of no rows.
+pub fn clear_index(m: &mut [u8])
+    requires { ⌜ storeBytes ≤ length (now m) ⌝ }
+    ensures { λ _. ⌜ Cleared (now (m .entry)) (now (m .exit)) ⌝ }
+{
+    words::fill(m, BUCKETS, 2 * HASHES, 0);
+}
 
 // A row's hash.
 fn hash(row: &[u8; ROW_BYTES]) -> usize
@@ -82,10 +91,30 @@ pub fn find(m: &[u8], n: usize, row: &[u8; ROW_BYTES]) -> usize
     n
 }
 
+// Appends a row to the n that are there.
+pub fn append(m: &mut [u8], n: usize, row: &[u8; ROW_BYTES])
+    requires { ⌜ Indexed (now m) n × (n < maxRows) × (length (now row) ≡ rowBytes) ⌝ }
+    ensures { λ _. ⌜ Appended (now (m .entry)) (now (m .exit)) n (now (row .entry)) ⌝ }
+{
+    let h = hash(row);
+    let before = entry(m, BUCKETS, h);
+    words::copy(row, 0, m, ROW_BYTES * n, ROW_BYTES);
+    put_entry(m, CHAIN, n, before);
+    put_entry(m, BUCKETS, h, n + 1);
+}
+
 // The i-th number of the table at a place.
 fn entry(m: &[u8], at: usize, i: usize) -> usize
     requires { ⌜ (at + 2 * i + 2 ≤ storeBytes) × (storeBytes ≤ length (now m)) ⌝ }
     ensures { λ r. ⌜ r ≡ entryAt (now (m .entry)) at i ⌝ }
 {
     words::read_u16(m, at + 2 * i) as usize
+}
+
+// Writes the i-th number of the table at a place.
+fn put_entry(m: &mut [u8], at: usize, i: usize, v: usize)
+    requires { ⌜ (at + 2 * i + 2 ≤ storeBytes) × (storeBytes ≤ length (now m)) × (v < 65536) ⌝ }
+    ensures { λ _. ⌜ now (m .exit) ≡ overwrite (now (m .entry)) (at + 2 * i) (bytes 2 v) ⌝ }
+{
+    words::write_u16(m, at + 2 * i, v as u16);
 }
