@@ -8,6 +8,8 @@ use lib.ListN.{length, getD, drop}
 use Rattle.model.specs.Bytes.{number, part}
 use Rattle.model.specs.Limits.{maxNodes}
 use Rattle.model.specs.Lists.{upFrom, sameNumbers}
+use Rattle.store.specs.declared.Found.{Found}
+use Rattle.store.specs.declared.Found.the-variants.{Full, At}
 
 -- the bytes of a row, the most rows, and the number of hashes
 abbrev pub rowBytes : ℕ
@@ -81,4 +83,28 @@ pub record Cleared (memory memory′ : List ℕ) : Type 0 where
 pub record Appended (memory memory′ : List ℕ) (n : ℕ) (row : List ℕ) : Type 0 where
   pub rows : rowsIn memory′ (n + 1) ≡ rowsIn memory n ++ (row ∷ [])
   pub index : Indexed memory′ (n + 1)
+  pub beyond : drop storeBytes memory′ ≡ drop storeBytes memory
+
+-- the rows with this one among them: appended where it is not there, unless there are the most
+unfoldable pub rowsWith : List (List ℕ) → List ℕ → List (List ℕ)
+rowsWith rows row = cond (ltb (indexIn rows row) (length rows)) rows (cond (ltb (length rows) maxRows) (rows ++ (row ∷ [])) rows)
+
+-- the answer: its index and the number of rows
+unfoldable pub foundIn : List (List ℕ) → List ℕ → Found
+foundIn rows row =
+    cond (ltb (indexIn rows row) (length rows)) (At (indexIn rows row) (length rows))
+    (cond (ltb (length rows) maxRows) (At (indexIn rows row) (length rows + 1)) Full)
+
+-- how many rows there are after an answer
+abbrev pub countAfter : ℕ → Found → ℕ
+countAfter n Full = n
+countAfter n (At index count) = count
+
+-- what finding or appending a row leaves
+pub record Kept (memory memory′ : List ℕ) (n : ℕ) (row : List ℕ) (r : Found) : Type 0 where
+  pub found : r ≡ foundIn (rowsIn memory n) row
+  pub rows : rowsIn memory′ (countAfter n r) ≡ rowsWith (rowsIn memory n) row
+  pub index : Indexed memory′ (countAfter n r)
+  pub distinct : Distinct (rowsIn memory′ (countAfter n r))
+  pub same : countAfter n r ≡ n → memory′ ≡ memory
   pub beyond : drop storeBytes memory′ ≡ drop storeBytes memory

@@ -4,7 +4,7 @@ ghost use Prim.Native.Nat.{_+_, _*_, _≤_, _<_};
 ghost use lib.ListN.{length};
 ghost use Rattle.model.specs.Bytes.{bytes, overwrite};
 ghost use Rattle.model.specs.Lists.{sameNumbers};
-ghost use Rattle.store.specs.Store.{rowBytes, maxRows, hashes, bucketsAt, chainAt, storeBytes, rowAt, rowsIn, indexIn, Distinct, hashOf, entryAt, Indexed, Cleared, Appended};
+ghost use Rattle.store.specs.Store.{rowBytes, maxRows, hashes, bucketsAt, chainAt, storeBytes, rowAt, rowsIn, indexIn, Distinct, hashOf, entryAt, Indexed, Cleared, Appended, Kept};
 
 // The bytes of a row, the most rows, and the number of hashes.
 pub const ROW_BYTES: usize = 30;
@@ -19,6 +19,12 @@ const BUCKETS: usize = ROW_BYTES * MAX_ROWS;
 const CHAIN: usize = BUCKETS + 2 * HASHES;
 
 pub const STORE_BYTES: usize = CHAIN + 2 * MAX_ROWS;
+
+// A row's index and the number of rows, or that there is no room for one more.
+pub enum Found {
+    Full,
+    At { index: usize, count: usize },
+}
 
 // Makes the index that of no rows.
 pub fn clear_index(m: &mut [u8])
@@ -101,6 +107,25 @@ pub fn append(m: &mut [u8], n: usize, row: &[u8; ROW_BYTES])
     words::copy(row, 0, m, ROW_BYTES * n, ROW_BYTES);
     put_entry(m, CHAIN, n, before);
     put_entry(m, BUCKETS, h, n + 1);
+}
+
+// The index of a row among n distinct ones. A row that is not there is appended.
+pub fn find_or_append(m: &mut [u8], n: usize, row: &[u8; ROW_BYTES]) -> Found
+    requires { ⌜ Indexed (now m) n × Distinct (rowsIn (now m) n) × (length (now row) ≡ rowBytes) ⌝ }
+    ensures { λ r. ⌜ Kept (now (m .entry)) (now (m .exit)) n (now (row .entry)) r ⌝ }
+{
+    let index = find(m, n, row);
+    if index < n {
+        return Found::At { index, count: n };
+    }
+    if n < MAX_ROWS {
+        append(m, n, row);
+        return Found::At {
+            index,
+            count: n + 1,
+        };
+    }
+    Found::Full
 }
 
 // The i-th number of the table at a place.
