@@ -1,0 +1,142 @@
+-- Laws of a search among rows. Assumes nothing.
+use mathlib.Core.Path.{_≡_, refl, sym, ap, ap₂, _∙_}
+use mathlib.Core.Bool.{Bool, true, false, cond, _&&_, false≢true}
+use mathlib.Core.Logic.{_↔_}
+use mathlib.Core.List.{List, [], _∷_, _++_}
+use Prim.Native.Nat.{ℕ, zero, suc, _+_, _≤_, _<_}
+use native.Mathlib.Nat.{zero-add, suc-add, not-suc-le-zero, le-of-suc-le-suc}
+use native.Mathlib.Decide.{decLt}
+use native.Mathlib.Omega.{arith}
+use lib.Dec.{eqb}
+use lib.ListN.{length, getD, length-append, List·getD-append}
+use lib.Seq.{getD-at}
+use borrow.Author.Tests.{eqb-true, eq-eqb}
+use Rattle.model.specs.Lists.{sameNumbers}
+use Rattle.model.proofs.Plan.{both}
+use Rattle.store.specs.Store.{indexIn, Distinct}
+
+true-and : (a b : Bool) → a ≡ true → b ≡ true → (a && b) ≡ true
+true-and true b h k = k
+true-and false b h k = h
+
+-- the test of equality
+pub same-numbers : (xs ys : List ℕ) → (sameNumbers xs ys ≡ true) ↔ (xs ≡ ys)
+same-numbers [] [] = (λ h. refl, λ e. refl)
+same-numbers [] (y ∷ ys) = (λ h. absurd (false≢true h), λ e. cc)
+same-numbers (x ∷ xs) [] = (λ h. absurd (false≢true h), λ e. cc)
+same-numbers (x ∷ xs) (y ∷ ys) =
+    let later = same-numbers xs ys in (
+      λ h. let two = both (eqb x y) (sameNumbers xs ys) h in ap₂ (λ z zs. z ∷ zs) (eqb-true x y (two .0)) (later .0 (two .1)),
+      λ e. true-and (eqb x y) (sameNumbers xs ys) (eq-eqb x y (cc)) (later .1 (cc)),
+    )
+
+pub other-numbers : (xs ys : List ℕ) → (sameNumbers xs ys ≡ false) ↔ (xs ≡ ys → ⊥)
+other-numbers xs ys = go (sameNumbers xs ys) refl
+  where
+    go : (b : Bool) → sameNumbers xs ys ≡ b → (b ≡ false) ↔ (xs ≡ ys → ⊥)
+    go true e = (λ f. absurd (false≢true (sym f)), λ n. absurd (n (same-numbers xs ys .0 e)))
+    go false e = (λ f p. false≢true (sym e ∙ same-numbers xs ys .1 p), λ n. refl)
+
+pub index-le : (rows : List (List ℕ)) (row : List ℕ) → indexIn rows row ≤ length rows
+unfolding indexIn
+index-le [] row = omega arith
+index-le (r ∷ rows) row = go (sameNumbers r row) (index-le rows row)
+  where
+    go : (b : Bool) → indexIn rows row ≤ length rows → cond b 0 (suc (indexIn rows row)) ≤ suc (length rows)
+    go true h = omega arith
+    go false h = omega arith
+
+-- a row that is found is equal
+pub index-found : (rows : List (List ℕ)) (row : List ℕ) → indexIn rows row < length rows → getD rows (indexIn rows row) [] ≡ row
+unfolding indexIn
+index-found [] row h = absurd (not-suc-le-zero h)
+index-found (r ∷ rows) row h = go (sameNumbers r row) refl (index-found rows row) h
+  where
+    go : (b : Bool) → sameNumbers r row ≡ b → (indexIn rows row < length rows → getD rows (indexIn rows row) [] ≡ row)
+        → cond b 0 (suc (indexIn rows row)) < suc (length rows) → getD (r ∷ rows) (cond b 0 (suc (indexIn rows row))) [] ≡ row
+    go true e later k = same-numbers r row .0 e
+    go false e later k = later (le-of-suc-le-suc k)
+
+-- and none before it is
+pub index-first : (rows : List (List ℕ)) (row : List ℕ) (j : ℕ) → j < indexIn rows row → getD rows j [] ≡ row → ⊥
+unfolding indexIn
+index-first [] row j h = absurd (not-suc-le-zero h)
+index-first (r ∷ rows) row zero h = go (sameNumbers r row) refl h
+  where
+    go : (b : Bool) → sameNumbers r row ≡ b → 0 < cond b 0 (suc (indexIn rows row)) → r ≡ row → ⊥
+    go true e k = absurd (not-suc-le-zero k)
+    go false e k = other-numbers r row .0 e
+index-first (r ∷ rows) row (suc j) h = go (sameNumbers r row) h (index-first rows row j)
+  where
+    go : (b : Bool) → suc j < cond b 0 (suc (indexIn rows row)) → (j < indexIn rows row → getD rows j [] ≡ row → ⊥) → getD rows j [] ≡ row → ⊥
+    go true k later = absurd (not-suc-le-zero k)
+    go false k later = later (le-of-suc-le-suc k)
+
+-- where none is equal, none is found
+pub index-none : (rows : List (List ℕ)) (row : List ℕ) → ((j : ℕ) → j < length rows → getD rows j [] ≡ row → ⊥)
+    → indexIn rows row ≡ length rows
+index-none rows row none = go (decLt (indexIn rows row) (length rows))
+  where
+    go : Dec (indexIn rows row < length rows) → indexIn rows row ≡ length rows
+    go (yes h) = absurd (none (indexIn rows row) h (index-found rows row h))
+    go (no h) = omega (arith, index-le rows row)
+
+-- of distinct rows, an equal one is found
+pub index-at : {rows : List (List ℕ)} {row : List ℕ} (i : ℕ) → Distinct rows → i < length rows → getD rows i [] ≡ row → indexIn rows row ≡ i
+index-at {rows} {row} i distinct below e = go (decLt i (indexIn rows row))
+  where
+    go : Dec (i < indexIn rows row) → indexIn rows row ≡ i
+    go (yes h) = absurd (index-first rows row i h e)
+    go (no h) =
+        let k : indexIn rows row < length rows = omega arith in
+        distinct .apart (indexIn rows row) i k below (index-found rows row k ∙ sym e)
+
+-- a row found among the first rows is found there
+pub index-left : (rows rest : List (List ℕ)) (row : List ℕ) → indexIn rows row < length rows → indexIn (rows ++ rest) row ≡ indexIn rows row
+unfolding indexIn
+index-left [] rest row h = absurd (not-suc-le-zero h)
+index-left (r ∷ rows) rest row h = go (sameNumbers r row) (index-left rows rest row) h
+  where
+    go : (b : Bool) → (indexIn rows row < length rows → indexIn (rows ++ rest) row ≡ indexIn rows row)
+        → cond b 0 (suc (indexIn rows row)) < suc (length rows)
+        → cond b 0 (suc (indexIn (rows ++ rest) row)) ≡ cond b 0 (suc (indexIn rows row))
+    go true later k = refl
+    go false later k = ap suc (later (le-of-suc-le-suc k))
+
+-- one that is not among them is looked for in the rest
+pub index-right : (rows rest : List (List ℕ)) (row : List ℕ) → indexIn rows row ≡ length rows
+    → indexIn (rows ++ rest) row ≡ length rows + indexIn rest row
+unfolding indexIn
+index-right [] rest row h = sym (zero-add (indexIn rest row))
+index-right (r ∷ rows) rest row h = go (sameNumbers r row) (index-right rows rest row) h
+  where
+    go : (b : Bool) → (indexIn rows row ≡ length rows → indexIn (rows ++ rest) row ≡ length rows + indexIn rest row)
+        → cond b 0 (suc (indexIn rows row)) ≡ suc (length rows)
+        → cond b 0 (suc (indexIn (rows ++ rest) row)) ≡ suc (length rows) + indexIn rest row
+    go true later k = absurd (omega arith)
+    go false later k = rw suc-add (ap suc (later (omega arith)))
+
+-- distinct rows and one that is not among them
+pub distinct-snoc : (rows : List (List ℕ)) (row : List ℕ) → Distinct rows → indexIn rows row ≡ length rows → Distinct (rows ++ (row ∷ []))
+distinct-snoc rows row distinct out = record { apart = λ i j hi hj e. go i j (rw length-append at hi) (rw length-append at hj) e (decLt i n) (decLt j n) }
+  where
+    n : ℕ
+    n = length rows
+
+    all : List (List ℕ)
+    all = rows ++ (row ∷ [])
+
+    inside : (i : ℕ) → i < n → getD all i [] ≡ getD rows i []
+    inside i h = List·getD-append rows (row ∷ []) [] i h
+
+    last : (i : ℕ) → n ≡ i → getD all i [] ≡ row
+    last i h = getD-at rows row [] [] i h
+
+    new : (i j : ℕ) → i < n → n ≡ j → getD all i [] ≡ getD all j [] → ⊥
+    new i j h k e = index-first rows row i (omega arith) (sym (inside i h) ∙ e ∙ last j k)
+
+    go : (i j : ℕ) → i < n + 1 → j < n + 1 → getD all i [] ≡ getD all j [] → Dec (i < n) → Dec (j < n) → i ≡ j
+    go i j hi hj e (yes a) (yes b) = distinct .apart i j a b (sym (inside i a) ∙ e ∙ inside j b)
+    go i j hi hj e (yes a) (no b) = absurd (new i j a (omega arith) e)
+    go i j hi hj e (no a) (yes b) = absurd (new j i b (omega arith) (sym e))
+    go i j hi hj e (no a) (no b) = omega arith

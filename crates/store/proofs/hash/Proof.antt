@@ -1,0 +1,72 @@
+-- `store::hash` meets its contract. The invariant of its loop: h is the hash of the first i bytes, and below the number of hashes. The measure is what is left of the row.
+-- Assumes nothing.
+use mathlib.Core.Path.{_≡_, refl, sym, ap, ap₂, _∙_}
+use Prim.Native.Nat.{ℕ, _-_, _≤_, _<_}
+use native.Mathlib.Omega.{arith}
+use lib.ListN.{length, take}
+use lib.Seq.{take-all}
+use borrow.Author.Needs.{needs}
+use Rattle.store.specs.Store.{rowBytes, hashes, hashStep, hashOf}
+use Rattle.store.proofs.Rows.{hash-more}
+use Rattle.store.proofs.hash.Statement.{statement}
+use Rattle.store.proofs.hash.Tie as tie
+
+abbrev Inv-loop : tie.InvT-loop
+Inv-loop row h₀ i₀ h i = (i ≤ rowBytes) × (h ≡ hashOf (take i row)) × (h < hashes)
+
+abbrev μ-loop : tie.MeasureT-loop
+μ-loop row h₀ i₀ h i = rowBytes - i
+
+loop-holds : tie.Need-loop-holds Inv-loop μ-loop
+unfolding hashOf
+loop-holds c = (omega arith, refl, omega arith)
+
+mul-h : tie.Need-mul-h Inv-loop μ-loop
+mul-h c = omega arith
+
+element-copy-out-wide8 : tie.Need-element-copy-out-wide8 Inv-loop μ-loop
+element-copy-out-wide8 c = search needs
+
+wide8-requires : tie.Need-wide8-requires Inv-loop μ-loop
+wide8-requires c κs = search needs
+
+add-h : tie.Need-add-h Inv-loop μ-loop
+add-h c = omega arith
+
+add-i : tie.Need-add-i Inv-loop μ-loop
+add-i c = omega arith
+
+loop-less : tie.Need-loop-less Inv-loop μ-loop
+loop-less c = omega arith
+
+loop-again : tie.Need-loop-again Inv-loop μ-loop
+loop-again c =
+    let row = c .before .before .before .before .args .row .now in
+    let i = c .before .before .before .loop .i in
+    let h : i < length row = omega arith in (
+      omega arith,
+      ap₂ hashStep (c .before .before .before .loop .inv .1) (c .wide8 .ensures .0) ∙ sym (hash-more row i h),
+      omega arith,
+    )
+
+returns : tie.Need-returns Inv-loop μ-loop
+returns c =
+    let row = c .before .before .args .row .now in
+    let all : c .before .loop .i ≡ rowBytes = omega arith in
+    (c .before .loop .inv .1 ∙ ap (λ (i : ℕ). hashOf (take i row)) all ∙ ap hashOf (take-all rowBytes row (omega arith)), omega arith)
+
+pub hash-spec : {M : Type 1} → statement M
+hash-spec =
+    tie.close
+    (tie.spec
+    Inv-loop
+    μ-loop
+    loop-holds
+    mul-h
+    element-copy-out-wide8
+    wide8-requires
+    add-h
+    add-i
+    loop-less
+    loop-again
+    returns)
