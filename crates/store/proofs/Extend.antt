@@ -1,5 +1,5 @@
 -- What appending a row writes, and that the index stays one. Assumes nothing.
-use mathlib.Core.Path.{_≡_, refl, sym, ap, ap₂, _∙_}
+use mathlib.Core.Path.{_≡_, sym, ap, ap₂, _∙_}
 use mathlib.Core.Logic.{_⊎_, inl, inr}
 use mathlib.Core.List.{List, [], _∷_, _++_}
 use Prim.Native.Nat.{ℕ, suc, _+_, _*_, _≤_, _<_}
@@ -11,7 +11,7 @@ use Rattle.model.specs.Bytes.{number, bytes, part, overwrite}
 use Rattle.words.proofs.Memory.{overwrite-length, overwrite-part, overwrite-frame}
 use Rattle.words.proofs.Numbers.{bytes-length}
 use Rattle.words.proofs.Words.{number-overwrite}
-use Rattle.store.specs.Store.{rowBytes, maxRows, hashes, bucketsAt, chainAt, storeBytes, rowAt, rowsIn, hashOf, hashAt, lastOf, entryAt, Indexed, Appended}
+use Rattle.store.specs.Store.{rowBytes, maxRows, hashes, bucketsAt, chainAt, storeBytes, rowAt, hashOf, hashAt, lastOf, entryAt, Indexed, Appended}
 use Rattle.store.proofs.Index.{last-here, last-there, last-same, last-le}
 use Rattle.store.proofs.Rows.{rows-more, rows-same, hash-lt}
 use Rattle.store.proofs.Tables.{overwrite-beyond}

@@ -4,7 +4,7 @@ ghost use Prim.Native.Nat.{_+_, _*_, _≤_, _<_};
 ghost use lib.ListN.{length};
 ghost use Rattle.model.specs.Bytes.{bytes, overwrite};
 ghost use Rattle.model.specs.Lists.{sameNumbers};
-ghost use Rattle.store.specs.Store.{rowBytes, maxRows, hashes, bucketsAt, chainAt, storeBytes, rowAt, rowsIn, indexIn, Distinct, hashOf, entryAt, Indexed, Cleared, Appended, Kept};
+ghost use Rattle.store.specs.Store.{rowBytes, maxRows, hashes, storeBytes, rowAt, rowsIn, indexIn, Distinct, hashOf, entryAt, Indexed, Cleared, Appended, Kept};
 
 // The bytes of a row, the most rows, and the number of hashes.
 pub const ROW_BYTES: usize = 30;
@@ -71,12 +71,12 @@ pub fn same_row(m: &[u8], j: usize, row: &[u8; ROW_BYTES]) -> bool
     ensures { λ r. ⌜ r ≡ sameNumbers (rowAt (now (m .entry)) j) (now (row .entry)) ⌝ }
 {
     let at = ROW_BYTES * j;
-    let mut i = 0;
-    while i < ROW_BYTES {
-        if m[at + i] != row[i] {
+    let mut same = 0;
+    while same < ROW_BYTES {
+        if m[at + same] != row[same] {
             return false;
         }
-        i += 1;
+        same += 1;
     }
     true
 }

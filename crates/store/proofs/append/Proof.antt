@@ -7,7 +7,7 @@ use borrow.Author.Needs.{needs}
 use native.Mathlib.Omega.{arith}
 use Rattle.model.specs.Bytes.{part}
 use Rattle.store.specs.Store.{rowBytes, bucketsAt, chainAt, Appended}
-use Rattle.store.proofs.Extend.{withRow, withEntry, appended, held-small, appends}
+use Rattle.store.proofs.Extend.{withRow, withEntry, chained, appended, held-small, appends}
 use Rattle.store.proofs.append.Statement.{statement}
 use Rattle.store.proofs.append.Tie as tie
 
@@ -49,10 +49,12 @@ returns c =
     let h = called .before .before .hash .result in
     let v = called .entry .result in
     let whole : part row 0 rowBytes ≡ row = take-all rowBytes row (omega (arith, start .pre .2)) in
+    let first : c .before .before .before .before .before .before .before .before .before .before .copy .last .1 .1 .0 ≡ withRow m n row
+    = _∙_ {b = withRow m n (part row 0 rowBytes)} (c .before .before .before .before .before .before .before .before .before .before .copy .ensures) (ap (withRow m n) whole) in
+    let second : c .before .before .before .before .before .before .put-entry .last .0 ≡ chained m n row v
+    = c .before .before .before .before .before .before .put-entry .ensures ∙ ap (λ (l : List ℕ). withEntry l chainAt n v) first in
     let written : c .before .before .put-entry2 .last .0 ≡ appended m n row v h
-    = c .before .before .put-entry2 .ensures
-    ∙ ap (λ (l : List ℕ). withEntry l bucketsAt h (n + 1)) (c .before .before .before .before .before .before .put-entry .ensures
-    ∙ ap (λ (l : List ℕ). withEntry l chainAt n v) (c .before .before .before .before .before .before .before .before .before .before .copy .ensures ∙ ap (withRow m n) whole)) in
+    = c .before .before .put-entry2 .ensures ∙ ap (λ (l : List ℕ). withEntry l bucketsAt h (n + 1)) second in
     subst (λ (l : List ℕ). Appended m l n row) (sym written)
     (appends m n row v h (start .pre .0) (start .pre .1) (start .pre .2) (called .before .before .hash .ensures .0) (called .entry .ensures))
 
