@@ -1,6 +1,6 @@
 // Rows of bytes in lent memory, numbered in order and found by their contents.
 ghost use mathlib.Core.Path.{_≡_};
-ghost use Prim.Native.Nat.{_+_, _*_, _≤_, _<_};
+ghost use Prim.Native.Nat.{_+_, _*_, _^_, _≤_, _<_};
 ghost use lib.ListN.{length};
 ghost use Rattle.model.specs.Bytes.{bytes, overwrite};
 ghost use Rattle.model.specs.Lists.{sameNumbers};
@@ -81,7 +81,7 @@ pub fn same_row(m: &[u8], j: usize, row: &[u8; ROW_BYTES]) -> bool
     true
 }
 
-// The number of the first of n distinct rows that is this one; n where none is.
+// The number of the row equal to this one, among n distinct rows; n where there is none.
 pub fn find(m: &[u8], n: usize, row: &[u8; ROW_BYTES]) -> usize
     requires { ⌜ Indexed (now m) n × Distinct (rowsIn (now m) n) × (length (now row) ≡ rowBytes) ⌝ }
     ensures { λ r. ⌜ r ≡ indexIn (rowsIn (now (m .entry)) n) (now (row .entry)) ⌝ }
@@ -138,7 +138,7 @@ fn entry(m: &[u8], at: usize, i: usize) -> usize
 
 // Writes the i-th number of the table at a place.
 fn put_entry(m: &mut [u8], at: usize, i: usize, v: usize)
-    requires { ⌜ (at + 2 * i + 2 ≤ storeBytes) × (storeBytes ≤ length (now m)) × (v < 65536) ⌝ }
+    requires { ⌜ (at + 2 * i + 2 ≤ storeBytes) × (storeBytes ≤ length (now m)) × (v < 256 ^ 2) ⌝ }
     ensures { λ _. ⌜ now (m .exit) ≡ overwrite (now (m .entry)) (at + 2 * i) (bytes 2 v) ⌝ }
 {
     words::write_u16(m, at + 2 * i, v as u16);
