@@ -1,8 +1,8 @@
 -- Laws of the rows in memory. Assumes nothing.
-use mathlib.Core.Path.{_≡_, refl, sym, ap, ap₂, _∙_}
+use mathlib.Core.Path.{_≡_, sym, ap, _∙_}
 use mathlib.Core.List.{List, [], _∷_, _++_, map, map-append, foldl, foldl-append}
-use Prim.Native.Nat.{ℕ, zero, suc, _+_, _*_, _≤_, _<_}
-use native.Mathlib.Nat.{zero-add, mod-lt}
+use Prim.Native.Nat.{ℕ, _+_, _*_, _≤_, _<_}
+use native.Mathlib.Nat.{zero-add, mod-lt, not-suc-le-zero}
 use native.Mathlib.Numerals.{add-one}
 use native.Mathlib.Omega.{arith}
 use lib.Dec.{lit<}
@@ -11,7 +11,7 @@ use lib.Seq.{ext-getD, take-suc, getD-take, getD-drop}
 use Rattle.model.specs.Lists.{upFrom}
 use Rattle.model.proofs.Lists.{length-upFrom, getD-table, upFrom-append}
 use Rattle.words.proofs.Memory.{part-length}
-use Rattle.store.specs.Store.{rowBytes, rowAt, rowsIn, hashOf, hashStep, hashes}
+use Rattle.store.specs.Store.{rowBytes, rowAt, rowsIn, Distinct, hashOf, hashStep, hashes}
 
 -- a byte of a row
 pub row-byte : (m : List ℕ) (j i : ℕ) → i < rowBytes → getD (rowAt m j) i 0 ≡ getD m (rowBytes * j + i) 0
@@ -42,6 +42,11 @@ pub rows-same : (m m′ : List ℕ) (n : ℕ) → ((j : ℕ) → j < n → rowAt
 rows-same m m′ n same =
     ext-getD [] (rowsIn m n) (rowsIn m′ n) (rows-length m n ∙ sym (rows-length m′ n))
     (λ j below. let h : j < n = omega (arith, rows-length m n) in rows-at m n j h ∙ same j h ∙ sym (rows-at m′ n j h))
+
+-- where there are no rows, no two are equal
+pub distinct-none : (m : List ℕ) → Distinct (rowsIn m 0)
+unfolding rowsIn
+distinct-none m = record { apart = λ i j below. absurd (not-suc-le-zero below) }
 
 -- one byte more
 pub hash-more : (bs : List ℕ) (i : ℕ) → i < length bs → hashOf (take (i + 1) bs) ≡ hashStep (hashOf (take i bs)) (getD bs i 0)

@@ -1,13 +1,13 @@
 -- Laws of writes into the store's memory. Assumes nothing.
 use mathlib.Core.Path.{_≡_, refl, sym, ap, _∙_}
-use mathlib.Core.Logic.{_⊎_, inl, inr, ⊎-elim}
+use mathlib.Core.Logic.{inr}
 use mathlib.Core.List.{List}
-use Prim.Native.Nat.{ℕ, zero, suc, _+_, _*_, _-_, _^_, _≤_, _<_}
+use Prim.Native.Nat.{ℕ, zero, suc, _+_, _*_, _-_, _≤_, _<_}
 use native.Mathlib.Nat.{zero-mul, zero-add, add-assoc}
 use native.Mathlib.Omega.{arith}
-use lib.ListN.{length, getD, drop, replicate, length-drop, length-replicate, getD-replicate}
+use lib.ListN.{length, drop, replicate, length-drop, length-replicate, getD-replicate}
 use lib.Seq.{take-all, getD-take, getD-drop, ext-getD}
-use Rattle.model.specs.Bytes.{number, bytes, part, overwrite}
+use Rattle.model.specs.Bytes.{number, part, overwrite}
 use Rattle.words.proofs.Memory.{overwrite-length, overwrite-inside, overwrite-frame, part-length}
 use Rattle.words.proofs.Numbers.{number-cons}
 use Rattle.store.specs.Store.{bucketsAt, storeBytes, hashes, lastOf, Cleared}

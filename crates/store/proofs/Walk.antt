@@ -1,10 +1,9 @@
 -- The walk down the chain of a row's hash. Assumes nothing.
-use mathlib.Core.Path.{_≡_, sym, ap, subst, _∙_}
+use mathlib.Core.Path.{_≡_, sym, ap, _∙_}
 use mathlib.Core.List.{List}
 use Prim.Native.Nat.{ℕ, suc, _≤_, _<_}
 use native.Mathlib.Decide.{decLt}
 use native.Mathlib.Omega.{arith}
-use lib.ListN.{length}
 use Rattle.store.specs.Store.{rowAt, rowsIn, indexIn, Distinct, hashOf, hashAt, lastOf}
 use Rattle.store.proofs.Index.{last-le, last-is, last-above}
 use Rattle.store.proofs.Rows.{rows-length, rows-at}

@@ -1,10 +1,10 @@
 // Rows of bytes in lent memory, numbered in order and found by their contents.
 ghost use mathlib.Core.Path.{_≡_};
-ghost use Prim.Native.Nat.{_+_, _*_, _≤_, _<_};
+ghost use Prim.Native.Nat.{_+_, _*_, _^_, _≤_, _<_};
 ghost use lib.ListN.{length};
 ghost use Rattle.model.specs.Bytes.{bytes, overwrite};
 ghost use Rattle.model.specs.Lists.{sameNumbers};
-ghost use Rattle.store.specs.Store.{rowBytes, maxRows, hashes, bucketsAt, chainAt, storeBytes, rowAt, rowsIn, indexIn, Distinct, hashOf, entryAt, Indexed, Cleared, Appended, Kept};
+ghost use Rattle.store.specs.Store.{rowBytes, maxRows, hashes, storeBytes, rowAt, rowsIn, indexIn, Distinct, hashOf, entryAt, Indexed, Cleared, Appended, Kept};
 
 // The bytes of a row, the most rows, and the number of hashes.
 pub const ROW_BYTES: usize = 30;
@@ -71,17 +71,17 @@ pub fn same_row(m: &[u8], j: usize, row: &[u8; ROW_BYTES]) -> bool
     ensures { λ r. ⌜ r ≡ sameNumbers (rowAt (now (m .entry)) j) (now (row .entry)) ⌝ }
 {
     let at = ROW_BYTES * j;
-    let mut i = 0;
-    while i < ROW_BYTES {
-        if m[at + i] != row[i] {
+    let mut same = 0;
+    while same < ROW_BYTES {
+        if m[at + same] != row[same] {
             return false;
         }
-        i += 1;
+        same += 1;
     }
     true
 }
 
-// The number of the first of n distinct rows that is this one; n where none is.
+// The number of the row equal to this one, among n distinct rows; n where there is none.
 pub fn find(m: &[u8], n: usize, row: &[u8; ROW_BYTES]) -> usize
     requires { ⌜ Indexed (now m) n × Distinct (rowsIn (now m) n) × (length (now row) ≡ rowBytes) ⌝ }
     ensures { λ r. ⌜ r ≡ indexIn (rowsIn (now (m .entry)) n) (now (row .entry)) ⌝ }
@@ -138,7 +138,7 @@ fn entry(m: &[u8], at: usize, i: usize) -> usize
 
 // Writes the i-th number of the table at a place.
 fn put_entry(m: &mut [u8], at: usize, i: usize, v: usize)
-    requires { ⌜ (at + 2 * i + 2 ≤ storeBytes) × (storeBytes ≤ length (now m)) × (v < 65536) ⌝ }
+    requires { ⌜ (at + 2 * i + 2 ≤ storeBytes) × (storeBytes ≤ length (now m)) × (v < 256 ^ 2) ⌝ }
     ensures { λ _. ⌜ now (m .exit) ≡ overwrite (now (m .entry)) (at + 2 * i) (bytes 2 v) ⌝ }
 {
     words::write_u16(m, at + 2 * i, v as u16);

@@ -1,13 +1,13 @@
 -- `store::append` meets its contract. Assumes nothing.
 use mathlib.Core.Path.{_≡_, sym, ap, subst, _∙_}
 use mathlib.Core.List.{List}
-use Prim.Native.Nat.{ℕ, _+_}
+use Prim.Native.Nat.{ℕ, _+_, _^_, _<_}
 use lib.Seq.{take-all}
 use borrow.Author.Needs.{needs}
 use native.Mathlib.Omega.{arith}
 use Rattle.model.specs.Bytes.{part}
 use Rattle.store.specs.Store.{rowBytes, bucketsAt, chainAt, Appended}
-use Rattle.store.proofs.Extend.{withRow, withEntry, appended, held-small, appends}
+use Rattle.store.proofs.Extend.{withRow, withEntry, chained, appended, held-small, written, appends}
 use Rattle.store.proofs.append.Statement.{statement}
 use Rattle.store.proofs.append.Tie as tie
 
@@ -27,8 +27,8 @@ put-entry-requires : tie.Need-put-entry-requires
 put-entry-requires c κs =
     let called = c .before .before .before .before .before .before in
     let start = called .before .before .before .before in
-    let a = start .args in
-    (search needs, search needs, held-small (a .m .now) (a .n) (called .entry .result) (called .before .before .hash .result) (a .row .now) (start .pre .0) (called .before .before .hash .ensures .0) (called .entry .ensures))
+    let h = called .before .before .hash in
+    (search needs, search needs, held-small (start .args .m .now) (start .args .n) (called .entry .result) (h .result) (start .pre .0) (h .ensures .1) (called .entry .ensures))
 
 add-put-entry : tie.Need-add-put-entry
 add-put-entry c = search needs
@@ -46,15 +46,22 @@ returns c =
     let m = start .args .m .now in
     let n = start .args .n in
     let row = start .args .row .now in
-    let h = called .before .before .hash .result in
-    let v = called .entry .result in
+    let h = called .before .before .hash in
+    let v = called .entry in
+    let copied = c .before .before .before .before .before .before .before .before .before .before .copy in
+    let chain = c .before .before .before .before .before .before .put-entry in
+    let bucket = c .before .before .put-entry2 in
     let whole : part row 0 rowBytes ≡ row = take-all rowBytes row (omega (arith, start .pre .2)) in
-    let written : c .before .before .put-entry2 .last .0 ≡ appended m n row v h
-    = c .before .before .put-entry2 .ensures
-    ∙ ap (λ (l : List ℕ). withEntry l bucketsAt h (n + 1)) (c .before .before .before .before .before .before .put-entry .ensures
-    ∙ ap (λ (l : List ℕ). withEntry l chainAt n v) (c .before .before .before .before .before .before .before .before .before .before .copy .ensures ∙ ap (withRow m n) whole)) in
-    subst (λ (l : List ℕ). Appended m l n row) (sym written)
-    (appends m n row v h (start .pre .0) (start .pre .1) (start .pre .2) (called .before .before .hash .ensures .0) (called .entry .ensures))
+    let first : copied .last .1 .1 .0 ≡ withRow m n row
+    = _∙_ {b = withRow m n (part row 0 rowBytes)} (copied .ensures) (ap (withRow m n) whole) in
+    let second : chain .last .0 ≡ chained m n row (v .result)
+    = chain .ensures ∙ ap (λ (l : List ℕ). withEntry l chainAt n (v .result)) first in
+    let third : bucket .last .0 ≡ appended m n row (v .result) (h .result)
+    = bucket .ensures ∙ ap (λ (l : List ℕ). withEntry l bucketsAt (h .result) (n + 1)) second in
+    let small : v .result < 256 ^ 2 = held-small m n (v .result) (h .result) (start .pre .0) (h .ensures .1) (v .ensures) in
+    subst (λ (l : List ℕ). Appended m l n row) (sym third)
+    (appends m (appended m n row (v .result) (h .result)) n row (v .result) (h .result) (start .pre .0) (start .pre .1) (h .ensures .0) (v .ensures)
+    (written m n row (v .result) (h .result) (start .pre .0 .room) (start .pre .1) (start .pre .2) (h .ensures .1) small))
 
 pub append-spec : {M : Type 1} → statement M
 append-spec =

@@ -1,4 +1,5 @@
 -- `store::find_or_append` meets its contract. Assumes nothing.
+use native.Mathlib.Omega.{arith}
 use borrow.Author.Needs.{needs}
 use Rattle.store.proofs.Keep.{kept-there, kept-new, kept-full}
 use Rattle.store.proofs.find_or_append.Statement.{statement}
@@ -31,7 +32,7 @@ returns-2 c =
     let start = called .before .before .before in
     kept-new (start .args .m .now) (start .args .n) (start .args .row .now) (called .find .result)
     (start .pre .1) (called .find .ensures) (c .before .before .append .last .0)
-    (c .before .before .before .before .before .if1 .left) (c .before .before .before .before .if2 .taken) (c .before .before .append .ensures)
+    (c .before .before .before .before .before .if1 .left) (omega arith) (c .before .before .append .ensures)
 
 same-length-3 : tie.Need-same-length-3
 same-length-3 c = search needs
@@ -40,7 +41,7 @@ returns-3 : tie.Need-returns-3
 returns-3 c =
     let start = c .before .before .before .before .before in
     kept-full (start .args .m .now) (start .args .n) (start .args .row .now) (c .before .before .find .result)
-    (start .pre .1) (c .before .before .find .ensures) (start .pre .0) (c .before .if1 .left) (c .if2 .left)
+    (start .pre .1) (c .before .before .find .ensures) (start .pre .0) (c .before .if1 .left) (omega arith)
 
 pub find-or-append-spec : {M : Type 1} → statement M
 find-or-append-spec =
