@@ -3,7 +3,7 @@ use plan::Task;
 ghost use mathlib.Core.Path.{_≡_};
 ghost use mathlib.Core.Bool.{cond};
 ghost use mathlib.Core.List.{[], _∷_, _++_};
-ghost use Prim.Native.Nat.{_+_, _/_, _%_, _^_, _≤_, _<_};
+ghost use Prim.Native.Nat.{ℕ, _+_, _/_, _%_, _^_, _≤_, _<_};
 ghost use lib.Dec.{eqb};
 ghost use lib.ListN.{length, getD};
 ghost use Rattle.model.specs.Bytes.{bytes, overwrite};
@@ -11,7 +11,7 @@ ghost use Rattle.model.specs.Limits.{maxTasks, maxValue};
 ghost use Rattle.model.specs.Masks.{maskCount};
 ghost use Rattle.model.specs.Slot.{noTask};
 ghost use Rattle.plan.specs.View.{taskOf};
-ghost use Rattle.graph.specs.Outcomes.{outcomes, scoreBytes, bestBytes, noteRoom, Room, Noting, Cleared, tasksIn, Released, InBounds, chosenWith, outcomeIn, nextOutcomes, maskOutcomes};
+ghost use Rattle.graph.specs.Outcomes.{outcomes, scoreBytes, bestBytes, noteRoom, patternCount, none, notesIn, Room, Noting, Cleared, tasksIn, Released, InBounds, chosenWith, outcomeIn, nextOutcomes, maskOutcomes};
 ghost use Rattle.graph.specs.View.{Starts};
 
 // A node: the cells of the policy's jobs, the pattern of taken slots, and the automaton's state.
@@ -208,6 +208,32 @@ pub fn clear_notes(memory: &mut [u8])
     ensures { λ _. ⌜ Cleared (now (memory .entry)) (now (memory .exit)) ⌝ }
 {
     words::fill(memory, 0, ORDER_AT, 0);
+}
+
+// The score noted for a pattern.
+pub fn best_score(memory: &[u8], pattern: usize) -> u32
+    requires { ⌜ (noteRoom ≤ length (now memory)) × (pattern < patternCount) ⌝ }
+    ensures { λ r. ⌜ ((count : ℕ) → r ≡ getD (notesIn (now (memory .entry)) count .best) pattern none .score) ⌝ }
+{
+    words::read_u32(memory, pattern * BEST_BYTES)
+}
+
+// The masks noted for a pattern.
+pub fn best_masks(memory: &[u8], pattern: usize) -> [u8; MAX_TASKS]
+    requires { ⌜ (noteRoom ≤ length (now memory)) × (pattern < patternCount) ⌝ }
+    ensures { λ r. ⌜ ((count : ℕ) → r ≡ getD (notesIn (now (memory .entry)) count .best) pattern none .masks) ⌝ }
+{
+    let mut masks = [0u8; MAX_TASKS];
+    words::copy(memory, pattern * BEST_BYTES + SCORE_BYTES, &mut masks, 0, MAX_TASKS);
+    masks
+}
+
+// The pattern noted at a place of the order.
+pub fn noted_pattern(memory: &[u8], k: usize) -> usize
+    requires { ⌜ (noteRoom ≤ length (now memory)) × (k < patternCount) ⌝ }
+    ensures { λ r. ⌜ ((count : ℕ) → k < count → r ≡ getD (notesIn (now (memory .entry)) count .order) k 0) ⌝ }
+{
+    words::read_u16(memory, ORDER_AT + k * PATTERN_BYTES) as usize
 }
 
 // Notes the outcomes of a label's choices from a pattern of taken slots; so many patterns are noted.
