@@ -5,13 +5,14 @@ ghost use mathlib.Core.Bool.{cond};
 ghost use mathlib.Core.List.{[], _∷_, _++_};
 ghost use Prim.Native.Nat.{ℕ, _+_, _/_, _%_, _^_, _≤_, _<_};
 ghost use lib.Dec.{eqb};
-ghost use lib.ListN.{length, getD};
+ghost use lib.ListN.{length, getD, drop};
 ghost use Rattle.model.specs.Bytes.{bytes, overwrite};
-ghost use Rattle.model.specs.Limits.{maxTasks, maxValue};
+ghost use Rattle.model.specs.Limits.{maxTasks, maxWindow, maxValue};
 ghost use Rattle.model.specs.Masks.{maskCount};
 ghost use Rattle.model.specs.Slot.{noTask};
 ghost use Rattle.plan.specs.View.{taskOf};
 ghost use Rattle.graph.specs.Outcomes.{outcomes, scoreBytes, bestBytes, noteRoom, patternCount, none, notesIn, Room, Noting, Cleared, tasksIn, Released, InBounds, chosenWith, outcomeIn, nextOutcomes, maskOutcomes};
+ghost use Rattle.graph.specs.Choice.{choiceOf, ledOf, fitsTask, allZero, nextChoice};
 ghost use Rattle.graph.specs.View.{Starts};
 
 // A node: the cells of the policy's jobs, the pattern of taken slots, and the automaton's state.
@@ -249,4 +250,82 @@ pub fn note_choices(release: Release, taken: u8, memory: &mut [u8], count: usize
         masks,
     };
     note_task(release, chosen, memory, count)
+}
+
+// Where a choice leads, if there is one: the pattern, and the gain.
+pub enum Found {
+    None,
+    Some(u8, u32),
+}
+
+// Whether a mask is one for a task: 0, or, if the task is released, ones for its work within its
+// window, clear of the pattern.
+fn fits(task: Task, released: bool, pattern: u8, m: u8) -> bool
+    requires { ⌜ task .window ≤ maxWindow ⌝ }
+    ensures { λ r. ⌜ r ≡ fitsTask (taskOf task) released pattern m ⌝ }
+{
+    if m == 0 {
+        return true;
+    }
+    if !released {
+        return false;
+    }
+    let wide = m as u32;
+    if wide >> task.window != 0 {
+        return false;
+    }
+    if u32::count_ones(wide) != task.work as u32 {
+        return false;
+    }
+    m & pattern == 0
+}
+
+// Whether the masks from a place on are 0.
+fn are_zero(masks: [u8; MAX_TASKS], from: usize) -> bool
+    requires { ⌜ (length masks ≡ maxTasks) × (from ≤ maxTasks) ⌝ }
+    ensures { λ r. ⌜ r ≡ allZero (drop from masks) ⌝ }
+{
+    if from == MAX_TASKS {
+        return true;
+    }
+    if masks[from] != 0 {
+        return false;
+    }
+    are_zero(masks, from + 1)
+}
+
+// Where the given masks for the tasks from the next on lead.
+fn choice_from(release: Release, chosen: Chosen, masks: [u8; MAX_TASKS]) -> Found
+    requires { ⌜ Released release × InBounds chosen × (chosen .task ≤ release .count) × (length masks ≡ maxTasks) ⌝ }
+    ensures { λ r. ⌜ ledOf r ≡ nextChoice release chosen masks ⌝ }
+{
+    let i = chosen.task;
+    if i == release.count {
+        if are_zero(masks, i) {
+            return Found::Some(chosen.pattern >> 1, chosen.gain);
+        }
+        return Found::None;
+    }
+    let task = task_at(release, i);
+    let released = is_released(release.label, i);
+    let m = masks[i];
+    if !fits(task, released, chosen.pattern, m) {
+        return Found::None;
+    }
+    let next = with_mask(chosen, task, m);
+    choice_from(release, next, masks)
+}
+
+// Where the label's choice with the given masks leads.
+pub fn choice(release: Release, taken: u8, masks: [u8; MAX_TASKS]) -> Found
+    requires { ⌜ Released release × (taken < maskCount) × (length masks ≡ maxTasks) ⌝ }
+    ensures { λ r. ⌜ ledOf r ≡ choiceOf (tasksIn release) (release .label) taken masks ⌝ }
+{
+    let chosen = Chosen {
+        task: 0,
+        pattern: taken,
+        gain: 0,
+        masks,
+    };
+    choice_from(release, chosen, masks)
 }
