@@ -244,13 +244,13 @@ module _ (ts : Tasks) (l : ℕ) (c : Chosen) (given : List ℕ) (none-yet : c .g
 
       missed : (findChoice given (choices ts l (c .pattern)) ≡ none) × ((ms : List ℕ) → List·Memᴰ ms (choices ts l (c .pattern)) → padded ms ≡ given → ⊥)
           → ledBy ts (c .pattern) (findChoice given (choices ts l (c .pattern))) ≡ choiceFrom ts l c given
-      missed (e, no) =
+      missed (e, never) =
           ap (ledBy ts (c .pattern)) e
           ∙ sym
           (⊎-elim (λ n. n)
           (λ r.
           let left : maxTasks - length (r .0) ≡ r .2 = omega (arith, ap length (r .3), length-append (r .0) (replicate (r .2) 0), length-replicate {A = ℕ} (r .2) 0) in
-          absurd (no (r .0) (r .1) (plain (r .0) (r .1) ∙ ap (λ n. r .0 ++ replicate n 0) left ∙ sym (r .3)))) (found-choice ts l c given))
+          absurd (never (r .0) (r .1) (plain (r .0) (r .1) ∙ ap (λ n. r .0 ++ replicate n 0) left ∙ sym (r .3)))) (found-choice ts l c given))
 
 -- ---- by the release
 
