@@ -6,7 +6,7 @@ use mathlib.Core.Bool.{Bool, true, false, cond, _||_, _&&_, false≢true}
 use mathlib.Core.List.{List, [], _∷_, _++_, map, List·Memᴰ, List·Memᴰ·head, List·Memᴰ·tail, List·Memᴰ·not-nil, List·Memᴰ·cases-cons, List·Memᴰ·eq-of-singleton, Memᴰ·map, Memᴰ·of-map}
 use mathlib.Core.Option.{Option, none, some}
 use Prim.Native.Nat.{ℕ, zero, suc, _+_, _-_, _*_, _/_, _%_, _^_, _<_, _≤_}
-use native.Mathlib.Nat.{add-zero, zero-add, add-assoc, pow-suc, div-lt-iff-lt-mul, div-one}
+use native.Mathlib.Nat.{add-zero, add-assoc, pow-suc, div-lt-iff-lt-mul, div-one}
 use native.Mathlib.Decide.{decLt}
 use native.Mathlib.Omega.{arith}
 use lib.Bits.{bitAnd, bitOr}
@@ -98,12 +98,12 @@ fits-mem t b taken m = by (eqb m 0) refl
         let two = both (ltb m (2 ^ t .window)) worked (one .1) in
         let three = both (eqb (ones maxWindow m) (t .work)) (eqb (bitAnd m taken) 0) (two .1) in (
           inr
-          (record {
-            out = subst T (sym (one .0)) tt;
-            pos = omega (arith, eqb-false m 0 e);
-            below = ltb-true m (2 ^ t .window) (two .0);
-            size = eqb-true (ones maxWindow m) (t .work) (three .0);
-          }),
+              (record {
+                out = subst T (sym (one .0)) tt;
+                pos = omega (arith, eqb-false m 0 e);
+                below = ltb-true m (2 ^ t .window) (two .0);
+                size = eqb-true (ones maxWindow m) (t .work) (three .0);
+              }),
           and-apart m taken .0 (eqb-true (bitAnd m taken) 0 (three .1)),
         )
 
@@ -198,8 +198,8 @@ found-choice (t ∷ ts) l c (m ∷ ms) = by (found-choice ts (l / 2) (chosenWith
         inr (
           m ∷ r .0,
           mem-flatMap (λ m. map (λ ms. m ∷ ms) (choices ts (l / 2) (bitOr (c .pattern) m)))
-          (mem-masksOf t (eqb (l % 2) 1) (c .pattern) m .1 (fits-mem t (eqb (l % 2) 1) (c .pattern) m e))
-          (Memᴰ·map (λ ms. m ∷ ms) (r .1)),
+              (mem-masksOf t (eqb (l % 2) 1) (c .pattern) m .1 (fits-mem t (eqb (l % 2) 1) (c .pattern) m e))
+              (Memᴰ·map (λ ms. m ∷ ms) (r .1)),
           r .2,
           ap (λ l. m ∷ l) (r .3),
         )) rest
@@ -222,7 +222,7 @@ sought given (x ∷ l) = by (sought given l) (sameNumbers (padded x) given) refl
         inl (
           ap (λ b. cond b (some x) (findChoice given l)) e ∙ n .0,
           λ ms h p.
-          ⊎-elim (λ (q : ms ≡ x). false≢true (sym e ∙ same-numbers (padded x) given .1 (ap padded (sym q) ∙ p))) (λ m. n .1 ms m p) (List·Memᴰ·cases-cons h),
+              ⊎-elim (λ (q : ms ≡ x). false≢true (sym e ∙ same-numbers (padded x) given .1 (ap padded (sym q) ∙ p))) (λ m. n .1 ms m p) (List·Memᴰ·cases-cons h),
         ))
         (λ r. inr (r .0, List·Memᴰ·tail (r .1), r .2, ap (λ b. cond b (some x) (findChoice given l)) e ∙ r .3)) rest
 

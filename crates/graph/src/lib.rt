@@ -225,7 +225,13 @@ pub fn best_masks(memory: &[u8], pattern: usize) -> [u8; MAX_TASKS]
     ensures { λ r. ⌜ ((count : ℕ) → r ≡ getD (notesIn (now (memory .entry)) count .best) pattern none .masks) ⌝ }
 {
     let mut masks = [0u8; MAX_TASKS];
-    words::copy(memory, pattern * BEST_BYTES + SCORE_BYTES, &mut masks, 0, MAX_TASKS);
+    words::copy(
+        memory,
+        pattern * BEST_BYTES + SCORE_BYTES,
+        &mut masks,
+        0,
+        MAX_TASKS,
+    );
     masks
 }
 
@@ -312,8 +318,8 @@ fn choice_from(release: Release, chosen: Chosen, masks: [u8; MAX_TASKS]) -> Foun
     if !fits(task, released, chosen.pattern, m) {
         return Found::None;
     }
-    let next = with_mask(chosen, task, m);
-    choice_from(release, next, masks)
+    let joined = with_mask(chosen, task, m);
+    choice_from(release, joined, masks)
 }
 
 // Where the label's choice with the given masks leads.

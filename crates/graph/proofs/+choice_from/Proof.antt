@@ -1,6 +1,6 @@
 -- The proof of `graph::choice_from`, which calls itself. The measure is how many tasks are left.
 -- Assumes nothing.
-use mathlib.Core.Path.{_≡_, sym, ap, ap₂, _∙_, subst}
+use mathlib.Core.Path.{sym, ap, ap₂, _∙_}
 use Prim.Native.Nat.{ℕ, _-_, _<_}
 use native.Mathlib.Omega.{arith}
 use lib.ListN.{getD}
@@ -109,7 +109,7 @@ choice-from-with-mask-requires t c κs =
       p .1,
       omega (arith, p .0 .tasks .count, p .0 .size, p .2, n .if1 .left),
       fits-low (taskOf (c .before .before .before .task-at .result)) (c .before .before .is-released .result) (s .args .chosen .pattern) (getD (s .args .t3) (s .args .chosen .task) 0)
-      (omega (arith, ap (λ (k : Task). k .window) is, range .window)) (sym (f .ensures) ∙ not-false (f .result) (c .if3 .left)),
+          (omega (arith, ap (λ (k : Task). k .window) is, range .window)) (sym (f .ensures) ∙ not-false (f .result) (c .if3 .left)),
     )
 
 choice-from-choice-from-requires : (t : ℕ) → choice-from-lts.Need-choice-from-requires (claims t) (choice-from-at t) choice-from.Post
