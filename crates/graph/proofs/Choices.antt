@@ -180,15 +180,15 @@ module _ (r : Release) (c : Chosen) (h : Released r) where
 
 -- ---- from the start
 
+pub take-zeros : (k j : ℕ) → k ≤ j → take k (replicate j 0) ≡ replicate {A = ℕ} k 0
+take-zeros zero j h = refl
+take-zeros (suc k) zero h = absurd (omega arith)
+take-zeros (suc k) (suc j) h = ap (λ l. 0 ∷ l) (take-zeros k j (omega arith))
+
 -- masks for the tasks from a place on, where no mask stands there yet
 placed-padded : (xs ms : List ℕ) (k j : ℕ) → length ms ≤ k → k ≤ j
     → placed (xs ++ replicate k 0) (length xs) ms ≡ xs ++ take k (ms ++ replicate j 0)
 placed-padded xs [] k j h h′ = ap (λ l. xs ++ l) (sym (take-zeros k j h′))
-  where
-    take-zeros : (k j : ℕ) → k ≤ j → take k (replicate j 0) ≡ replicate {A = ℕ} k 0
-    take-zeros zero j h = refl
-    take-zeros (suc k) zero h = absurd (omega arith)
-    take-zeros (suc k) (suc j) h = ap (λ l. 0 ∷ l) (take-zeros k j (omega arith))
 placed-padded xs (m ∷ ms) zero j h h′ = absurd (omega arith)
 placed-padded xs (m ∷ ms) (suc k) j h h′ =
     let next : length xs + 1 ≡ length (xs ++ (m ∷ [])) = sym (length-append xs (m ∷ [])) in

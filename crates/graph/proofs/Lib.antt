@@ -4,3 +4,4 @@ pub mod Notes
 pub mod Choices
 pub mod Outcomes
 pub mod Adding
+pub mod Search

@@ -1,2 +1,3 @@
 pub mod View
 pub mod Outcomes
+pub mod Choice

@@ -3,15 +3,16 @@ use plan::Task;
 ghost use mathlib.Core.Path.{_≡_};
 ghost use mathlib.Core.Bool.{cond};
 ghost use mathlib.Core.List.{[], _∷_, _++_};
-ghost use Prim.Native.Nat.{_+_, _/_, _%_, _^_, _≤_, _<_};
+ghost use Prim.Native.Nat.{ℕ, _+_, _/_, _%_, _^_, _≤_, _<_};
 ghost use lib.Dec.{eqb};
-ghost use lib.ListN.{length, getD};
+ghost use lib.ListN.{length, getD, drop};
 ghost use Rattle.model.specs.Bytes.{bytes, overwrite};
-ghost use Rattle.model.specs.Limits.{maxTasks, maxValue};
+ghost use Rattle.model.specs.Limits.{maxTasks, maxWindow, maxValue};
 ghost use Rattle.model.specs.Masks.{maskCount};
 ghost use Rattle.model.specs.Slot.{noTask};
 ghost use Rattle.plan.specs.View.{taskOf};
-ghost use Rattle.graph.specs.Outcomes.{outcomes, scoreBytes, bestBytes, noteRoom, Room, Noting, Cleared, tasksIn, Released, InBounds, chosenWith, outcomeIn, nextOutcomes, maskOutcomes};
+ghost use Rattle.graph.specs.Outcomes.{outcomes, scoreBytes, bestBytes, noteRoom, patternCount, none, notesIn, Room, Noting, Cleared, tasksIn, Released, InBounds, chosenWith, outcomeIn, nextOutcomes, maskOutcomes};
+ghost use Rattle.graph.specs.Choice.{choiceOf, ledOf, fitsTask, allZero, nextChoice};
 ghost use Rattle.graph.specs.View.{Starts};
 
 // A node: the cells of the policy's jobs, the pattern of taken slots, and the automaton's state.
@@ -210,6 +211,38 @@ pub fn clear_notes(memory: &mut [u8])
     words::fill(memory, 0, ORDER_AT, 0);
 }
 
+// The score noted for a pattern.
+pub fn best_score(memory: &[u8], pattern: usize) -> u32
+    requires { ⌜ (noteRoom ≤ length (now memory)) × (pattern < patternCount) ⌝ }
+    ensures { λ r. ⌜ ((count : ℕ) → r ≡ getD (notesIn (now (memory .entry)) count .best) pattern none .score) ⌝ }
+{
+    words::read_u32(memory, pattern * BEST_BYTES)
+}
+
+// The masks noted for a pattern.
+pub fn best_masks(memory: &[u8], pattern: usize) -> [u8; MAX_TASKS]
+    requires { ⌜ (noteRoom ≤ length (now memory)) × (pattern < patternCount) ⌝ }
+    ensures { λ r. ⌜ ((count : ℕ) → r ≡ getD (notesIn (now (memory .entry)) count .best) pattern none .masks) ⌝ }
+{
+    let mut masks = [0u8; MAX_TASKS];
+    words::copy(
+        memory,
+        pattern * BEST_BYTES + SCORE_BYTES,
+        &mut masks,
+        0,
+        MAX_TASKS,
+    );
+    masks
+}
+
+// The pattern noted at a place of the order.
+pub fn noted_pattern(memory: &[u8], k: usize) -> usize
+    requires { ⌜ (noteRoom ≤ length (now memory)) × (k < patternCount) ⌝ }
+    ensures { λ r. ⌜ ((count : ℕ) → k < count → r ≡ getD (notesIn (now (memory .entry)) count .order) k 0) ⌝ }
+{
+    words::read_u16(memory, ORDER_AT + k * PATTERN_BYTES) as usize
+}
+
 // Notes the outcomes of a label's choices from a pattern of taken slots; so many patterns are noted.
 pub fn note_choices(release: Release, taken: u8, memory: &mut [u8], count: usize) -> usize
     requires { ⌜ Released release × (taken < maskCount) × Room (now memory) count ⌝ }
@@ -223,4 +256,82 @@ pub fn note_choices(release: Release, taken: u8, memory: &mut [u8], count: usize
         masks,
     };
     note_task(release, chosen, memory, count)
+}
+
+// Where a choice leads, if there is one: the pattern, and the gain.
+pub enum Found {
+    None,
+    Some(u8, u32),
+}
+
+// Whether a mask is one for a task: 0, or, if the task is released, ones for its work within its
+// window, clear of the pattern.
+fn fits(task: Task, released: bool, pattern: u8, m: u8) -> bool
+    requires { ⌜ task .window ≤ maxWindow ⌝ }
+    ensures { λ r. ⌜ r ≡ fitsTask (taskOf task) released pattern m ⌝ }
+{
+    if m == 0 {
+        return true;
+    }
+    if !released {
+        return false;
+    }
+    let wide = m as u32;
+    if wide >> task.window != 0 {
+        return false;
+    }
+    if u32::count_ones(wide) != task.work as u32 {
+        return false;
+    }
+    m & pattern == 0
+}
+
+// Whether the masks from a place on are 0.
+fn are_zero(masks: [u8; MAX_TASKS], from: usize) -> bool
+    requires { ⌜ (length masks ≡ maxTasks) × (from ≤ maxTasks) ⌝ }
+    ensures { λ r. ⌜ r ≡ allZero (drop from masks) ⌝ }
+{
+    if from == MAX_TASKS {
+        return true;
+    }
+    if masks[from] != 0 {
+        return false;
+    }
+    are_zero(masks, from + 1)
+}
+
+// Where the given masks for the tasks from the next on lead.
+fn choice_from(release: Release, chosen: Chosen, masks: [u8; MAX_TASKS]) -> Found
+    requires { ⌜ Released release × InBounds chosen × (chosen .task ≤ release .count) × (length masks ≡ maxTasks) ⌝ }
+    ensures { λ r. ⌜ ledOf r ≡ nextChoice release chosen masks ⌝ }
+{
+    let i = chosen.task;
+    if i == release.count {
+        if are_zero(masks, i) {
+            return Found::Some(chosen.pattern >> 1, chosen.gain);
+        }
+        return Found::None;
+    }
+    let task = task_at(release, i);
+    let released = is_released(release.label, i);
+    let m = masks[i];
+    if !fits(task, released, chosen.pattern, m) {
+        return Found::None;
+    }
+    let joined = with_mask(chosen, task, m);
+    choice_from(release, joined, masks)
+}
+
+// Where the label's choice with the given masks leads.
+pub fn choice(release: Release, taken: u8, masks: [u8; MAX_TASKS]) -> Found
+    requires { ⌜ Released release × (taken < maskCount) × (length masks ≡ maxTasks) ⌝ }
+    ensures { λ r. ⌜ ledOf r ≡ choiceOf (tasksIn release) (release .label) taken masks ⌝ }
+{
+    let chosen = Chosen {
+        task: 0,
+        pattern: taken,
+        gain: 0,
+        masks,
+    };
+    choice_from(release, chosen, masks)
 }

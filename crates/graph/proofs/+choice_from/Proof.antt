@@ -1,0 +1,157 @@
+-- The proof of `graph::choice_from`, which calls itself. The measure is how many tasks are left.
+-- Assumes nothing.
+use mathlib.Core.Path.{sym, ap, ap₂, _∙_}
+use Prim.Native.Nat.{ℕ, _-_, _<_}
+use native.Mathlib.Omega.{arith}
+use lib.ListN.{getD}
+use borrow.Author.Needs.{needs}
+use borrow.Author.Tests.{not-true, not-false}
+use borrow.Fn.Kinds.{In}
+use borrow.Fn.PlainCycle.{Measures, is, falls, and}
+use Rattle.model.specs.Plan.{Task}
+use Rattle.plan.specs.View.{taskOf}
+use Rattle.graph.specs.Outcomes.{chosenWith}
+use Rattle.graph.specs.Choice.{nextChoice, fitsTask}
+use Rattle.graph.proofs.Choices.{task-range}
+use Rattle.graph.proofs.Search.{fits-low, next-found, next-not-zero, next-fits, next-fails}
+use Rattle.graph.specs.declared.Chosen.{Chosen}
+use Rattle.graph.proofs.choice_from.Reads as choice-from
+use Rattle.graph.proofs.choice_from.Kinds as choice-from-kinds
+use Rattle.graph.proofs.+choice_from.Lts-choice_from as choice-from-lts
+use Rattle.graph.proofs.are_zero.Reads as are-zero-reads
+use Rattle.graph.proofs.fits.Reads as fits-reads
+use Rattle.graph.proofs.is_released.Reads as is-released-reads
+use Rattle.graph.proofs.task_at.Reads as task-at-reads
+use Rattle.graph.proofs.with_mask.Reads as with-mask-reads
+use Rattle.graph.proofs.+choice_from.{statement}
+use Rattle.graph.proofs.+choice_from.Tie.{close}
+
+abbrev μ-choice-from : Measures 0 choice-from-kinds.ps ℕ
+μ-choice-from κs a = a .0 .count - a .1 .0 .task
+
+abbrev choice-from-at : ℕ → In 0 choice-from-kinds.ps
+choice-from-at t =
+    and 0 choice-from-kinds.ps (is 0 choice-from-kinds.ps μ-choice-from t) choice-from.Pre
+
+abbrev choice-from-below : ℕ → In 0 choice-from-kinds.ps
+choice-from-below t =
+    and 0 choice-from-kinds.ps (falls 0 choice-from-kinds.ps _<_ μ-choice-from t) choice-from.Pre
+
+abbrev claims : ℕ → choice-from-lts.Claims
+claims t = (
+  are-zero-reads.Asked,
+  are-zero-reads.Learnt,
+  task-at-reads.Asked,
+  task-at-reads.Learnt,
+  is-released-reads.Asked,
+  is-released-reads.Learnt,
+  fits-reads.Asked,
+  fits-reads.Learnt,
+  with-mask-reads.Asked,
+  with-mask-reads.Learnt,
+  choice-from-below t,
+  choice-from.Post,
+)
+
+choice-from-are-zero-requires : (t : ℕ) → choice-from-lts.Need-are-zero-requires (claims t) (choice-from-at t) choice-from.Post
+choice-from-are-zero-requires t c κs = search needs
+
+choice-from-returns : (t : ℕ) → choice-from-lts.Need-returns (claims t) (choice-from-at t) choice-from.Post
+choice-from-returns t c =
+    let n = c .before .before in
+    let s = n .before .before .before in
+    let a = s .args in
+    sym (next-found (a .release) (a .chosen) (a .t3) (s .pre .1 .0) (n .before .if1 .taken) (sym (n .are-zero .ensures) ∙ c .before .if2 .taken))
+
+choice-from-returns-2 : (t : ℕ) → choice-from-lts.Need-returns-2 (claims t) (choice-from-at t) choice-from.Post
+choice-from-returns-2 t c =
+    let n = c .before in
+    let s = n .before .before .before in
+    let a = s .args in
+    sym (next-not-zero (a .release) (a .chosen) (a .t3) (s .pre .1 .0) (n .before .if1 .taken) (sym (n .are-zero .ensures) ∙ c .if2 .left))
+
+choice-from-task-at-requires : (t : ℕ) → choice-from-lts.Need-task-at-requires (claims t) (choice-from-at t) choice-from.Post
+choice-from-task-at-requires t c κs = search needs
+
+choice-from-is-released-requires : (t : ℕ) → choice-from-lts.Need-is-released-requires (claims t) (choice-from-at t) choice-from.Post
+choice-from-is-released-requires t c κs = search needs
+
+choice-from-array-read-m : (t : ℕ) → choice-from-lts.Need-array-read-m (claims t) (choice-from-at t) choice-from.Post
+choice-from-array-read-m t c = search needs
+
+choice-from-fits-requires : (t : ℕ) → choice-from-lts.Need-fits-requires (claims t) (choice-from-at t) choice-from.Post
+choice-from-fits-requires t c κs =
+    let n = c .before .before in
+    let s = n .before .before in
+    let p = s .pre .1 in
+    let range = task-range (s .args .release) (s .args .chosen) (p .0) (omega (arith, p .2, n .if1 .left)) in
+    omega (arith, ap (λ (k : Task). k .window) (c .before .task-at .ensures), range .window)
+
+choice-from-returns-3 : (t : ℕ) → choice-from-lts.Need-returns-3 (claims t) (choice-from-at t) choice-from.Post
+choice-from-returns-3 t c =
+    let n = c .before .before .before .before in
+    let s = n .before .before in
+    let p = s .pre .1 in
+    let a = s .args in
+    sym
+    (next-fails (a .release) (a .chosen) (a .t3) (p .0) (omega (arith, p .2, n .if1 .left)) (p .3) (omega (arith, p .0 .tasks .count, p .0 .size))
+    (sym (ap₂ (λ k b. fitsTask k b (a .chosen .pattern) (getD (a .t3) (a .chosen .task) 0)) (c .before .before .before .task-at .ensures) (c .before .before .is-released .ensures))
+    ∙ sym (c .before .fits2 .ensures) ∙ not-true (c .before .fits2 .result) (c .if3 .taken)))
+
+choice-from-with-mask-requires : (t : ℕ) → choice-from-lts.Need-with-mask-requires (claims t) (choice-from-at t) choice-from.Post
+choice-from-with-mask-requires t c κs =
+    let n = c .before .before .before .before in
+    let s = n .before .before in
+    let p = s .pre .1 in
+    let range = task-range (s .args .release) (s .args .chosen) (p .0) (omega (arith, p .2, n .if1 .left)) in
+    let is = c .before .before .before .task-at .ensures in
+    let f = c .before .fits2 in (
+      p .1,
+      omega (arith, p .0 .tasks .count, p .0 .size, p .2, n .if1 .left),
+      fits-low (taskOf (c .before .before .before .task-at .result)) (c .before .before .is-released .result) (s .args .chosen .pattern) (getD (s .args .t3) (s .args .chosen .task) 0)
+          (omega (arith, ap (λ (k : Task). k .window) is, range .window)) (sym (f .ensures) ∙ not-false (f .result) (c .if3 .left)),
+    )
+
+choice-from-choice-from-requires : (t : ℕ) → choice-from-lts.Need-choice-from-requires (claims t) (choice-from-at t) choice-from.Post
+choice-from-choice-from-requires t c κs =
+    let n = c .before .before .before .before .before in
+    let s = n .before .before in
+    let p = s .pre .1 in
+    let w = c .with-mask .ensures in
+    let next = ap (λ (x : Chosen). x .task) (w .0) in
+    (omega (arith, s .pre .0, next, p .2, n .if1 .left), (p .0, w .1, omega (arith, next, p .2, n .if1 .left), p .3))
+
+choice-from-returns-4 : (t : ℕ) → choice-from-lts.Need-returns-4 (claims t) (choice-from-at t) choice-from.Post
+choice-from-returns-4 t c =
+    let n = c .before .before .before .before .before .before in
+    let s = n .before .before in
+    let p = s .pre .1 in
+    let a = s .args in
+    let is = c .before .before .before .before .before .task-at .ensures in
+    let f = c .before .before .before .fits2 in
+    c .choice-from .ensures
+    ∙ ap (λ k. nextChoice (a .release) k (a .t3)) (c .before .with-mask .ensures .0 ∙ ap (λ k. chosenWith k (a .chosen) (getD (a .t3) (a .chosen .task) 0)) is)
+    ∙ sym
+    (next-fits (a .release) (a .chosen) (a .t3) (p .0) (omega (arith, p .2, n .if1 .left)) (p .3) (omega (arith, p .0 .tasks .count, p .0 .size))
+    (sym (ap₂ (λ k b. fitsTask k b (a .chosen .pattern) (getD (a .t3) (a .chosen .task) 0)) is (c .before .before .before .before .is-released .ensures))
+    ∙ sym (f .ensures) ∙ not-false (f .result) (c .before .before .if3 .left)))
+
+pub +choice-from-spec : {M : Type 1} → statement M
++choice-from-spec =
+    close
+    μ-choice-from
+    λ t. choice-from-lts.spec
+    (claims t)
+    (choice-from-at t)
+    choice-from.Post
+    (choice-from-are-zero-requires t)
+    (choice-from-returns t)
+    (choice-from-returns-2 t)
+    (choice-from-task-at-requires t)
+    (choice-from-is-released-requires t)
+    (choice-from-array-read-m t)
+    (choice-from-fits-requires t)
+    (choice-from-returns-3 t)
+    (choice-from-with-mask-requires t)
+    (choice-from-choice-from-requires t)
+    (choice-from-returns-4 t)
