@@ -28,7 +28,7 @@ use Rattle.model.proofs.Plan.{both}
 use Rattle.policy.specs.View.{Tasks}
 use Rattle.theory.proofs.Bits.{Apart, and-apart, zero-no-bit}
 use Rattle.theory.proofs.Edges.{MaskOf, Picked, mem-masksOf, mem-choices}
-use Rattle.theory.proofs.Tests.{same-numbers}
+use Rattle.model.proofs.Tests.{same-numbers}
 use Rattle.graph.specs.Outcomes.{chosenWith, tasksIn, Released}
 use Rattle.graph.specs.Choice.{Led, findChoice, ledBy, choiceOf, fitsTask, allZero, choiceFrom, nextChoice}
 use Rattle.graph.proofs.Choices.{take-zeros}

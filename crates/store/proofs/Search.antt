@@ -1,34 +1,17 @@
 -- Laws of a search among rows. Assumes nothing.
-use mathlib.Core.Path.{_≡_, refl, sym, ap, ap₂, _∙_}
-use mathlib.Core.Bool.{Bool, true, false, cond, _&&_, false≢true}
+use mathlib.Core.Path.{_≡_, refl, sym, ap, _∙_}
+use mathlib.Core.Bool.{Bool, true, false, cond, false≢true}
 use mathlib.Core.Logic.{_↔_}
 use mathlib.Core.List.{List, [], _∷_, _++_}
 use Prim.Native.Nat.{ℕ, zero, suc, _+_, _≤_, _<_}
 use native.Mathlib.Nat.{zero-add, suc-add, not-suc-le-zero, le-of-suc-le-suc}
 use native.Mathlib.Decide.{decLt}
 use native.Mathlib.Omega.{arith}
-use lib.Dec.{eqb}
 use lib.ListN.{length, getD, length-append, List·getD-append}
 use lib.Seq.{getD-at}
-use borrow.Author.Tests.{eqb-true, eq-eqb}
 use Rattle.model.specs.Lists.{sameNumbers}
-use Rattle.model.proofs.Plan.{both}
+use Rattle.model.proofs.Tests.{same-numbers}
 use Rattle.store.specs.Store.{indexIn, Distinct}
-
-true-and : (a b : Bool) → a ≡ true → b ≡ true → (a && b) ≡ true
-true-and true b h k = k
-true-and false b h k = h
-
--- the test of equality
-pub same-numbers : (xs ys : List ℕ) → (sameNumbers xs ys ≡ true) ↔ (xs ≡ ys)
-same-numbers [] [] = (λ h. refl, λ e. refl)
-same-numbers [] (y ∷ ys) = (λ h. absurd (false≢true h), λ e. cc)
-same-numbers (x ∷ xs) [] = (λ h. absurd (false≢true h), λ e. cc)
-same-numbers (x ∷ xs) (y ∷ ys) =
-    let later = same-numbers xs ys in (
-      λ h. let two = both (eqb x y) (sameNumbers xs ys) h in ap₂ (λ z zs. z ∷ zs) (eqb-true x y (two .0)) (later .0 (two .1)),
-      λ e. true-and (eqb x y) (sameNumbers xs ys) (eq-eqb x y (cc)) (later .1 (cc)),
-    )
 
 pub other-numbers : (xs ys : List ℕ) → (sameNumbers xs ys ≡ false) ↔ (xs ≡ ys → ⊥)
 other-numbers xs ys = go (sameNumbers xs ys) refl

@@ -11,7 +11,7 @@ use lib.Bits.{bitAnd, bitOr, and-step, or-step, and-shr, or-shr}
 use lib.Dec.{T, eqb}
 use lib.Pow.{pow-mono, shr-shr}
 use Rattle.model.specs.Lists.{bit, one, ones, sum}
-use Rattle.theory.proofs.Tests.{is-true, is-false, holds, fails, both-hold, left-holds, right-holds, or-cases, or-left, or-right}
+use Rattle.model.proofs.Tests.{is-true, is-false, holds, fails, both-hold, left-holds, right-holds, or-cases, or-left, or-right}
 use Rattle.theory.proofs.Sums.{sum-same, sum-head, sum-past}
 
 -- the lowest bit

@@ -25,7 +25,7 @@ use Rattle.model.specs.Check.{withinLimit, potentialsOk, padded, isStep, findSt
 use Rattle.model.proofs.Plan.{both}
 use Rattle.words.proofs.Complement.{complement-lt, signed-complement}
 use Rattle.words.proofs.Numbers.{number-bytes, bytes-length}
-use Rattle.theory.proofs.Tests.{true-and, all-each, same-numbers}
+use Rattle.model.proofs.Tests.{true-and, all-each, same-numbers}
 use Rattle.theory.proofs.Nodes.{known-nodes, nodes-fit}
 use Rattle.theory.proofs.Steps.{find-step, after, closes-parts, cycle-closes}
 use Rattle.theory.proofs.Accepted.{Accepted}

@@ -9,7 +9,7 @@ use native.Mathlib.Omega.{arith}
 use lib.IntN.{ℤ, pos, _+ℤ_, _-ℤ_, natAbs}
 use lib.Signed.{leZ, _≤ℤ_}
 use Rattle.words.proofs.Signed.{up, dn, up-add, up-sub, up-or-dn, nat-eq, natAbs-is, leZ-iff, ≤ℤ-iff}
-use Rattle.theory.proofs.Tests.{fails}
+use Rattle.model.proofs.Tests.{fails}
 
 -- a difference of sums is the sum of differences
 pub sub-sums : (a b c d : ℕ) → pos (a + b) -ℤ pos (c + d) ≡ (pos a -ℤ pos c) +ℤ (pos b -ℤ pos d)

@@ -1,4 +1,3 @@
-pub mod Tests
 pub mod Sums
 pub mod Integers
 pub mod Bits

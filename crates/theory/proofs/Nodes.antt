@@ -19,7 +19,7 @@ use Rattle.model.specs.Walk.{Walk, here, go}
 use Rattle.model.specs.Check.{numberIn}
 use Rattle.model.proofs.Lists.{mem-getD, place}
 use Rattle.model.proofs.Plan.{both}
-use Rattle.theory.proofs.Tests.{true-and}
+use Rattle.model.proofs.Tests.{true-and}
 use Rattle.theory.proofs.Distinct.{Distinct, distinct-snoc, distinct-at, distinct-le}
 use Rattle.theory.proofs.Cycles.{walk-snoc}
 

@@ -19,7 +19,7 @@ use Rattle.model.proofs.Lists.{mem-getD}
 use Rattle.model.proofs.Plan.{both}
 use Rattle.words.proofs.Signed.{≤ℤ-trans}
 use Rattle.theory.proofs.Integers.{leZ-not, gap, budget}
-use Rattle.theory.proofs.Tests.{is-true, holds, true-and, all-each}
+use Rattle.model.proofs.Tests.{is-true, holds, true-and, all-each}
 use Rattle.theory.proofs.Distinct.{Distinct}
 use Rattle.theory.proofs.Nodes.{number-at, number-getD, start-in-nodes, number-start, nodes-closed, walk-in-nodes}
 use Rattle.theory.proofs.Costs.{Feasible, feasible-walk}

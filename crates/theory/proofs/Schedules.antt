@@ -20,7 +20,7 @@ use Rattle.model.specs.Schedule.{Schedule, gainFrom, admits, admitsFrom}
 use Rattle.model.specs.Graph.{Node, Edge, start, joined, edgeOf, edges}
 use Rattle.model.specs.Walk.{Walk, here, go, labels, maskAt, Agrees, TrueToSchedules}
 use Rattle.model.proofs.Lists.{mem-getD, getD-table, length-upFrom}
-use Rattle.theory.proofs.Tests.{is-false, holds, fails, same-test, left-holds, right-holds}
+use Rattle.model.proofs.Tests.{is-false, holds, fails, same-test, left-holds, right-holds}
 use Rattle.theory.proofs.Sums.{sum-same, sum-zero}
 use Rattle.theory.proofs.Bits.{bit-half, zero-no-bit, bit-past, ones-below, no-bit, fromBits, fromBits-lt, bit-fromBits}
 use Rattle.theory.proofs.Edges.{Picked, MaskOf, Fits, mem-edges, joined-bit}

@@ -19,7 +19,7 @@ use Rattle.model.specs.Solve.{cost, Smallest, Solved}
 use Rattle.model.proofs.Lists.{place}
 use Rattle.words.proofs.Signed.{≤ℤ-antisymm}
 use Rattle.theory.proofs.Integers.{not-less}
-use Rattle.theory.proofs.Tests.{true-and, all-each}
+use Rattle.model.proofs.Tests.{true-and, all-each}
 use Rattle.theory.proofs.Sound.{PlanSound}
 use Rattle.theory.proofs.Cycles.{walk-append}
 use Rattle.theory.proofs.Nodes.{start-in-nodes, nodes-fit, nodes-closed}

@@ -20,7 +20,7 @@ use Rattle.model.specs.Walk.{Walk, here, go, kept, ideal}
 use Rattle.model.specs.Certificate.{Certificate, Step}
 use Rattle.model.specs.Check.{padded, isStep, findStep, Reached, follow, closes, cycleOk}
 use Rattle.model.proofs.Plan.{both}
-use Rattle.theory.proofs.Tests.{true-and, same-numbers}
+use Rattle.model.proofs.Tests.{true-and, same-numbers}
 use Rattle.theory.proofs.Edges.{edge-determined}
 use Rattle.theory.proofs.Sound.{PlanSound}
 use Rattle.theory.proofs.Walks.{step-of}

@@ -6,7 +6,8 @@ use native.Mathlib.Omega.{arith}
 use borrow.Author.Needs.{needs}
 use Rattle.store.specs.Store.{rowAt, hashOf, hashAt, lastOf}
 use Rattle.store.proofs.Index.{last-le}
-use Rattle.store.proofs.Search.{same-numbers, other-numbers}
+use Rattle.model.proofs.Tests.{same-numbers}
+use Rattle.store.proofs.Search.{other-numbers}
 use Rattle.store.proofs.Walk.{Walked, walked-start, walked-step, walked-found, walked-out}
 use Rattle.store.proofs.find.Statement.{statement}
 use Rattle.store.proofs.find.Tie as tie

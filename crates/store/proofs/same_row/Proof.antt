@@ -9,7 +9,8 @@ use borrow.Author.Count.{below-none, below-more}
 use borrow.Author.Needs.{needs}
 use Rattle.store.specs.Store.{rowBytes, rowAt}
 use Rattle.store.proofs.Rows.{row-byte, row-ext}
-use Rattle.store.proofs.Search.{same-numbers, other-numbers}
+use Rattle.model.proofs.Tests.{same-numbers}
+use Rattle.store.proofs.Search.{other-numbers}
 use Rattle.store.proofs.same_row.Statement.{statement}
 use Rattle.store.proofs.same_row.Tie as tie
 
