@@ -1,0 +1,60 @@
+-- The nodes of a graph as rows of the node store.
+use mathlib.Core.Path.{_≡_}
+use mathlib.Core.Bool.{cond}
+use mathlib.Core.List.{List, [], _∷_, _++_, map}
+use Prim.Native.Nat.{ℕ, _+_, _<_, _≤_}
+use lib.ListN.{length, getD, take, drop}
+use Rattle.model.specs.Graph as model
+use Rattle.model.specs.Limits.{maxNodes}
+use Rattle.policy.specs.View.{Tasks, cellCount, Cells}
+use Rattle.graph.specs.View.{nodeOf}
+use Rattle.graph.specs.declared.Node.{Node}
+use Rattle.store.specs.declared.Found.{Found}
+use Rattle.store.specs.declared.Found.the-variants.{Full, At}
+use Rattle.store.specs.Store.{storeBytes, rowAt, rowsIn, Distinct, Indexed}
+
+-- a node as a row: the cells, the pattern, the state
+abbrev pub rowOf : Node → List ℕ
+rowOf u = u .cells ++ (u .taken ∷ u .state ∷ [])
+
+-- and back
+abbrev pub takenAt : ℕ
+takenAt = cellCount
+
+abbrev pub stateAt : ℕ
+stateAt = cellCount + 1
+
+abbrev pub nodeIn : List ℕ → Node
+nodeIn row = record { cells = take cellCount row; taken = getD row takenAt 0; state = getD row stateAt 0 }
+
+-- the node of the model that a row stands for
+abbrev pub viewOf : Tasks → List ℕ → model.Node
+viewOf ts row = nodeOf ts (nodeIn row)
+
+-- the nodes of the first n rows
+unfoldable pub nodesIn : Tasks → List ℕ → ℕ → List model.Node
+nodesIn ts memory n = map (viewOf ts) (rowsIn memory n)
+
+-- n distinct rows of nodes whose cells a node can hold, and their index
+pub record Holding (ts : Tasks) (memory : List ℕ) (n : ℕ) : Type 0 where
+  pub index : Indexed memory n
+  pub distinct : Distinct (rowsIn memory n)
+  pub cells : (j : ℕ) → j < n → Cells ts cellCount (nodeIn (rowAt memory j) .cells)
+
+-- a node joins those known unless it is among them
+abbrev pub addNode : List model.Node → model.Node → List model.Node
+addNode ns v = cond (model.among v ns) ns (ns ++ (v ∷ []))
+
+-- the number of nodes where there are too many, and the number after an answer
+abbrev pub tooMany : ℕ
+tooMany = maxNodes + 1
+
+abbrev pub countIn : Found → ℕ
+countIn Full = tooMany
+countIn (At index count) = count
+
+-- r rows hold the nodes, in order, or these are too many; the bytes behind the store are as they were
+pub record Known (ts : Tasks) (nodes : List model.Node) (before after : List ℕ) (r : ℕ) : Type 0 where
+  pub held : r ≤ maxNodes → Holding ts after r × (nodesIn ts after r ≡ nodes)
+  pub many : maxNodes < r → maxNodes < length nodes
+  pub beyond : drop storeBytes after ≡ drop storeBytes before
