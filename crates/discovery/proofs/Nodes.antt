@@ -10,6 +10,7 @@ use lib.ListN.{length, getD, length-append, length-map, List·getD-append}
 use borrow.Author.Tests.{ltb-true, ltb-false, lt-ltb, le-ltb}
 use Rattle.model.specs.Graph as model
 use Rattle.model.specs.Graph.{sameNode, among}
+use Rattle.model.specs.Limits.{maxNodes}
 use Rattle.model.specs.Lists.{sameNumbers}
 use Rattle.theory.proofs.Nodes.{same-node}
 use Rattle.policy.specs.View.{Tasks, cellCount, Cells}
@@ -22,7 +23,7 @@ use Rattle.store.specs.declared.Found.the-variants.{Full, At}
 use Rattle.store.specs.Store.{rowBytes, maxRows, rowAt, rowsIn, indexIn, Distinct, Indexed, rowsWith, foundIn, countAfter, Kept}
 use Rattle.store.proofs.Rows.{rows-length, rows-at}
 use Rattle.store.proofs.Search.{same-numbers}
-use Rattle.discovery.specs.Discovery.{rowOf, nodeIn, viewOf, nodesIn, Holding, addNode, countIn, Known}
+use Rattle.discovery.specs.Discovery.{rowOf, nodeIn, viewOf, nodesIn, Holding, addNode, countIn, Known, Stored, Adds}
 use Rattle.discovery.proofs.Rows.{row-node, node-row}
 
 -- a row of a node whose cells a node can hold
@@ -180,8 +181,18 @@ module _ (ts : Tasks) (u : Node) (fits : Cells ts cellCount (u .cells)) (m m′ 
             beyond = kept .beyond;
           }
 
-  -- the same, with what is known of the row and of the answer
-  pub known-answer : (row : List ℕ) → row ≡ rowOf u → (r q : Found) → Kept m m′ n row r → r ≡ q →
-      Known ts (addNode (nodesIn ts m n) (nodeOf ts u)) m m′ (countIn q)
-  known-answer row same r q kept e =
-      subst (λ (a : Found). Known ts target m m′ (countIn a)) e (known-kept r (subst (λ (l : List ℕ). Kept m m′ n l r) same kept))
+-- the same, with what is known of the row and of the answer
+pub adds-answer : (u : Node) (m m′ : List ℕ) (n : ℕ) (row : List ℕ) → row ≡ rowOf u → (r q : Found) → Kept m m′ n row r → r ≡ q →
+    Adds (u .cells) (λ ts. nodeOf ts u ∷ []) m n m′ (countIn q)
+adds-answer u m m′ n row same r q kept e = record { stored = λ few. stored q (subst (Kept m m′ n (rowOf u)) e kept′) few; known = known }
+  where
+    kept′ : Kept m m′ n (rowOf u) r
+    kept′ = subst (λ (l : List ℕ). Kept m m′ n l r) same kept
+
+    stored : (a : Found) → Kept m m′ n (rowOf u) a → countIn a ≤ maxNodes → Stored m′ (countIn a)
+    stored Full k few = absurd (omega arith)
+    stored (At i c) k few = record { index = k .index; distinct = k .distinct }
+
+    known : (ts : Tasks) → Holding ts m n → Cells ts cellCount (u .cells) → Known ts (addNode (nodesIn ts m n) (nodeOf ts u)) m m′ (countIn q)
+    known ts held fits =
+        subst (λ (a : Found). Known ts (addNode (nodesIn ts m n) (nodeOf ts u)) m m′ (countIn a)) e (known-kept ts u fits m m′ n held r kept′)

@@ -1,12 +1,14 @@
 -- The nodes of a graph as rows of the node store.
 use mathlib.Core.Path.{_≡_}
 use mathlib.Core.Bool.{cond}
-use mathlib.Core.List.{List, [], _∷_, _++_, map}
+use mathlib.Core.List.{List, [], _∷_, _++_, map, foldl}
 use Prim.Native.Nat.{ℕ, _+_, _<_, _≤_}
 use lib.ListN.{length, getD, take, drop}
 use Rattle.model.specs.Graph as model
 use Rattle.model.specs.Limits.{maxNodes}
-use Rattle.policy.specs.View.{Tasks, cellCount, Cells}
+use Rattle.model.specs.Lists.{upFrom}
+use Rattle.policy.specs.View.{Tasks, cellCount, jobsOf, Cells}
+use Rattle.graph.specs.Outcomes.{patternCount, noteRoom, patternIn}
 use Rattle.graph.specs.View.{nodeOf}
 use Rattle.graph.specs.declared.Node.{Node}
 use Rattle.store.specs.declared.Found.{Found}
@@ -58,3 +60,29 @@ pub record Known (ts : Tasks) (nodes : List model.Node) (before after : List ℕ
   pub held : r ≤ maxNodes → Holding ts after r × (nodesIn ts after r ≡ nodes)
   pub many : maxNodes < r → maxNodes < length nodes
   pub beyond : drop storeBytes after ≡ drop storeBytes before
+
+-- n distinct rows and their index
+pub record Stored (memory : List ℕ) (n : ℕ) : Type 0 where
+  pub index : Indexed memory n
+  pub distinct : Distinct (rowsIn memory n)
+
+-- the nodes vs, whose cells are these, join those of n rows: then there are r rows
+pub record Adds (cells : List ℕ) (vs : Tasks → List model.Node) (before : List ℕ) (n : ℕ) (after : List ℕ) (r : ℕ) : Type 0 where
+  pub stored : r ≤ maxNodes → Stored after r
+  pub known : (ts : Tasks) → Holding ts before n → Cells ts cellCount cells → Known ts (foldl addNode (nodesIn ts before n) (vs ts)) before after r
+
+-- the nodes with these cells and this state, one for each pattern
+abbrev pub nodeWith : Tasks → List ℕ → ℕ → ℕ → model.Node
+nodeWith ts cells state p = record { jobs = jobsOf ts cells; taken = p; state = state }
+
+abbrev pub nodesWith : List ℕ → ℕ → List ℕ → Tasks → List model.Node
+nodesWith cells state ps ts = map (nodeWith ts cells state) ps
+
+-- the first k patterns in the notes, each a byte
+abbrev pub orderIn : List ℕ → ℕ → List ℕ
+orderIn notes k = map (patternIn notes) (upFrom 0 k)
+
+pub record Readable (notes : List ℕ) (count : ℕ) : Type 0 where
+  pub few : count ≤ patternCount
+  pub room : noteRoom ≤ length notes
+  pub byte : (k : ℕ) → k < count → patternIn notes k < 256

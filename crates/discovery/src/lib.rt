@@ -3,10 +3,13 @@ use graph::Node;
 use store::Found;
 ghost use mathlib.Core.Path.{_≡_};
 ghost use lib.ListN.{length};
-ghost use Rattle.policy.specs.View.{Tasks, cellCount, Cells};
+ghost use mathlib.Core.List.{[], _∷_};
+ghost use Prim.Native.Nat.{_<_};
+ghost use Rattle.policy.specs.View.{cellCount};
+ghost use Rattle.graph.specs.Outcomes.{patternIn};
 ghost use Rattle.graph.specs.View.{nodeOf};
-ghost use Rattle.store.specs.Store.{rowBytes, rowsIn, Distinct, Indexed};
-ghost use Rattle.discovery.specs.Discovery.{rowOf, nodeIn, nodesIn, Holding, addNode, Known};
+ghost use Rattle.store.specs.Store.{rowBytes};
+ghost use Rattle.discovery.specs.Discovery.{rowOf, nodeIn, Stored, Adds, nodesWith, orderIn, Readable};
 
 // Where the pattern and the state stand in a row, behind the cells.
 const TAKEN: usize = policy::CELLS;
@@ -46,12 +49,56 @@ pub const TOO_MANY: usize = store::MAX_ROWS + 1;
 // A node joins the n in the store unless it is among them. The number of nodes then.
 pub fn add_node(m: &mut [u8], n: usize, node: Node) -> usize
     requires { ⌜ length (node .cells) ≡ cellCount ⌝ }
-    requires { ⌜ Indexed (now m) n × Distinct (rowsIn (now m) n) ⌝ }
-    ensures { λ r. ⌜ ((ts : Tasks) → Holding ts (now (m .entry)) n → Cells ts cellCount (node .cells) → Known ts (addNode (nodesIn ts (now (m .entry)) n) (nodeOf ts node)) (now (m .entry)) (now (m .exit)) r) ⌝ }
+    requires { ⌜ Stored (now m) n ⌝ }
+    ensures { λ r. ⌜ Adds (node .cells) (λ ts. nodeOf ts node ∷ []) (now (m .entry)) n (now (m .exit)) r ⌝ }
 {
     let row = row_of(node);
     match store::find_or_append(m, n, &row) {
         Found::Full => TOO_MANY,
         Found::At { index: _, count } => count,
     }
+}
+
+// Where the order of the patterns stands in the notes, two bytes for each.
+const ORDER: usize = graph::NOTE_ROOM - 2 * Node::PATTERNS;
+
+// The k-th pattern in the order of the notes.
+fn pattern_at(notes: &[u8], count: usize, k: usize) -> u8
+    requires { ⌜ Readable (now notes) count × (k < count) ⌝ }
+    ensures { λ r. ⌜ r ≡ patternIn (now (notes .entry)) k ⌝ }
+{
+    words::read_u16(notes, ORDER + k * 2) as u8
+}
+
+// For each pattern in the notes a node with these cells and this state joins those in the store. The number of nodes then.
+pub fn add_outcomes(
+    m: &mut [u8],
+    n: usize,
+    notes: &[u8],
+    count: usize,
+    cells: [u8; policy::CELLS],
+    state: u8,
+) -> usize
+    requires { ⌜ Stored (now m) n × Readable (now notes) count × (length cells ≡ cellCount) ⌝ }
+    ensures { λ r. ⌜ Adds cells (nodesWith cells state (orderIn (now (notes .entry)) count)) (now (m .entry)) n (now (m .exit)) r ⌝ }
+{
+    let mut known = n;
+    let mut k = 0;
+    while k < count {
+        let taken = pattern_at(notes, count, k);
+        known = add_node(
+            m,
+            known,
+            Node {
+                cells,
+                taken,
+                state,
+            },
+        );
+        if store::MAX_ROWS < known {
+            return known;
+        }
+        k += 1;
+    }
+    known
 }

@@ -1,7 +1,7 @@
 -- `discovery::add_node` meets its contract: the row is found or appended. Assumes nothing.
 use borrow.Author.Needs.{needs}
 use Rattle.store.specs.declared.Found.the-variants.{Full, At}
-use Rattle.discovery.proofs.Nodes.{known-answer}
+use Rattle.discovery.proofs.Nodes.{adds-answer}
 use Rattle.discovery.proofs.add_node.Statement.{statement}
 use Rattle.discovery.proofs.add_node.Tie as tie
 
@@ -21,10 +21,10 @@ same-length : tie.Need-same-length
 same-length c = search needs
 
 returns : tie.Need-returns
-returns c ts held fits =
+returns c =
     let call = c .before .before .before .before in
     let a = call .before .before .before .before .before .args in
-    known-answer ts (a .node) fits (a .m .now) (call .find-or-append .last .0) (a .n) held
+    adds-answer (a .node) (a .m .now) (call .find-or-append .last .0) (a .n)
     (call .before .before .before .row-of .result) (call .before .before .before .row-of .ensures)
     (call .find-or-append .result) Full (call .find-or-append .ensures) (c .enum-told .given .1)
 
@@ -32,10 +32,10 @@ same-length-2 : tie.Need-same-length-2
 same-length-2 c = search needs
 
 returns-2 : tie.Need-returns-2
-returns-2 c ts held fits =
+returns-2 c =
     let call = c .before .before .before .before .before in
     let a = call .before .before .before .before .before .args in
-    known-answer ts (a .node) fits (a .m .now) (call .find-or-append .last .0) (a .n) held
+    adds-answer (a .node) (a .m .now) (call .find-or-append .last .0) (a .n)
     (call .before .before .before .row-of .result) (call .before .before .before .row-of .ensures)
     (call .find-or-append .result) (At _ _) (call .find-or-append .ensures) (c .before .count .given .1)
 
