@@ -7,7 +7,9 @@ use lib.ListN.{length, getD, take, drop}
 use Rattle.model.specs.Graph as model
 use Rattle.model.specs.Limits.{maxNodes}
 use Rattle.model.specs.Lists.{upFrom}
-use Rattle.policy.specs.View.{Tasks, cellCount, jobsOf, Cells}
+use Rattle.model.specs.Plan.{Plan}
+use Rattle.policy.specs.View.{Tasks, cellCount, jobsOf, Cells, tasksIn, Ruled}
+use Rattle.policy.specs.declared.Rules.{Rules}
 use Rattle.graph.specs.Outcomes.{patternCount, noteRoom, patternIn}
 use Rattle.graph.specs.View.{nodeOf}
 use Rattle.graph.specs.declared.Node.{Node}
@@ -86,3 +88,17 @@ pub record Readable (notes : List ℕ) (count : ℕ) : Type 0 where
   pub few : count ≤ patternCount
   pub room : noteRoom ≤ length notes
   pub byte : (k : ℕ) → k < count → patternIn notes k < 256
+
+-- the plans that the rules are of
+pub record PlanFor (P : Plan) (r : Rules) : Type 0 where
+  pub tasks : P .tasks ≡ tasksIn r
+  pub policy : P .policy ≡ r .policy
+
+-- rules by which a label can be explored
+pub record Exploring (r : Rules) : Type 0 where
+  pub ruled : Ruled r
+  pub size : length (tasksIn r) ≡ r .count
+
+-- the targets of these edges join the nodes of n rows
+pub record Explored (r : Rules) (edgesOf : Plan → List model.Edge) (before : List ℕ) (n : ℕ) (after : List ℕ) (q : ℕ) : Type 0 where
+  pub known : (P : Plan) → PlanFor P r → Known (tasksIn r) (foldl model.add (nodesIn (tasksIn r) before n) (edgesOf P)) before after q

@@ -1,15 +1,19 @@
 // The nodes of a plan's graph, discovered in order and kept in the node store.
 use graph::Node;
+use graph::Release;
+use policy::Rules;
 use store::Found;
 ghost use mathlib.Core.Path.{_≡_};
 ghost use lib.ListN.{length};
 ghost use mathlib.Core.List.{[], _∷_};
-ghost use Prim.Native.Nat.{_<_};
-ghost use Rattle.policy.specs.View.{cellCount};
-ghost use Rattle.graph.specs.Outcomes.{patternIn};
+ghost use Prim.Native.Nat.{_<_, _≤_};
+ghost use mathlib.Core.Option.{some};
+ghost use Rattle.model.specs.Graph.{edgesTo};
+ghost use Rattle.policy.specs.View.{cellCount, Cells, tasksIn};
+ghost use Rattle.graph.specs.Outcomes.{patternIn, noteRoom};
 ghost use Rattle.graph.specs.View.{nodeOf};
 ghost use Rattle.store.specs.Store.{rowBytes};
-ghost use Rattle.discovery.specs.Discovery.{rowOf, nodeIn, Stored, Adds, nodesWith, orderIn, Readable};
+ghost use Rattle.discovery.specs.Discovery.{rowOf, nodeIn, Stored, Adds, nodesWith, orderIn, Readable, Holding, Exploring, Explored};
 
 // Where the pattern and the state stand in a row, behind the cells.
 const TAKEN: usize = policy::CELLS;
@@ -101,4 +105,32 @@ pub fn add_outcomes(
         k += 1;
     }
     known
+}
+
+// The nodes that a label leads to from a node, in this state, join those in the store. The number of nodes then.
+fn explore_label(
+    rules: Rules,
+    node: Node,
+    label: u8,
+    state: u8,
+    notes: &mut [u8],
+    m: &mut [u8],
+    n: usize,
+) -> usize
+    requires { ⌜ Exploring rules × Cells (tasksIn rules) cellCount (node .cells) ⌝ }
+    requires { ⌜ Holding (tasksIn rules) (now m) n × (noteRoom ≤ length (now notes)) ⌝ }
+    ensures { λ r. ⌜ Explored rules (λ P. edgesTo P (nodeOf (tasksIn rules) node) label (some state)) (now (m .entry)) n (now (m .exit)) r ⌝ }
+{
+    let cells = node.cells;
+    let done = policy::slot(rules, cells, label);
+    graph::clear_notes(notes);
+    let tasks = rules.tasks;
+    let release = Release {
+        tasks,
+        count: rules.count,
+        label,
+    };
+    let count = graph::note_choices(release, node.taken, notes, 0);
+    let after = done.cells;
+    add_outcomes(m, n, notes, count, after, state)
 }
