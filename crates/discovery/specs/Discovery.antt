@@ -6,8 +6,9 @@ use Prim.Native.Nat.{ℕ, _+_, _<_, _≤_}
 use lib.ListN.{length, getD, take, drop}
 use Rattle.model.specs.Graph as model
 use Rattle.model.specs.Limits.{maxNodes}
-use Rattle.model.specs.Lists.{upFrom}
-use Rattle.model.specs.Plan.{Plan}
+use Rattle.model.specs.Lists.{flatMap, upFrom}
+use Rattle.model.specs.Plan.{Plan, nextIn}
+use Rattle.plan.specs.View.{arcsIn}
 use Rattle.policy.specs.View.{Tasks, cellCount, jobsOf, Cells, tasksIn, Ruled}
 use Rattle.policy.specs.declared.Rules.{Rules}
 use Rattle.graph.specs.Outcomes.{patternCount, noteRoom, patternIn}
@@ -102,3 +103,10 @@ pub record Exploring (r : Rules) : Type 0 where
 -- the targets of these edges join the nodes of n rows
 pub record Explored (r : Rules) (edgesOf : Plan → List model.Edge) (before : List ℕ) (n : ℕ) (after : List ℕ) (q : ℕ) : Type 0 where
   pub known : (P : Plan) → PlanFor P r → Known (tasksIn r) (foldl model.add (nodesIn (tasksIn r) before n) (edgesOf P)) before after q
+
+-- the edges of a label, and of the first k labels, by the table of next states
+abbrev pub edgesBy : List ℕ → model.Node → ℕ → Plan → List model.Edge
+edgesBy next u l P = model.edgesTo P u l (nextIn (arcsIn next) (u .state) l)
+
+abbrev pub edgesBelow : List ℕ → model.Node → ℕ → Plan → List model.Edge
+edgesBelow next u k P = flatMap (λ l. edgesBy next u l P) (upFrom 0 k)

@@ -6,14 +6,15 @@ use store::Found;
 ghost use mathlib.Core.Path.{_≡_};
 ghost use lib.ListN.{length};
 ghost use mathlib.Core.List.{[], _∷_};
-ghost use Prim.Native.Nat.{_<_, _≤_};
+ghost use Prim.Native.Nat.{_^_, _<_, _≤_};
 ghost use mathlib.Core.Option.{some};
 ghost use Rattle.model.specs.Graph.{edgesTo};
+ghost use Rattle.model.specs.Limits.{maxStates};
 ghost use Rattle.policy.specs.View.{cellCount, Cells, tasksIn};
 ghost use Rattle.graph.specs.Outcomes.{patternIn, noteRoom};
 ghost use Rattle.graph.specs.View.{nodeOf};
 ghost use Rattle.store.specs.Store.{rowBytes};
-ghost use Rattle.discovery.specs.Discovery.{rowOf, nodeIn, Stored, Adds, nodesWith, orderIn, Readable, Holding, Exploring, Explored};
+ghost use Rattle.discovery.specs.Discovery.{rowOf, nodeIn, Stored, Adds, nodesWith, orderIn, Readable, Holding, Exploring, Explored, edgesBy, edgesBelow};
 
 // Where the pattern and the state stand in a row, behind the cells.
 const TAKEN: usize = policy::CELLS;
@@ -133,4 +134,51 @@ fn explore_label(
     let count = graph::note_choices(release, node.taken, notes, 0);
     let after = done.cells;
     add_outcomes(m, n, notes, count, after, state)
+}
+
+// The nodes that a label leads to from a node, if it is admitted, join those in the store. The number of nodes then.
+fn follow_label(
+    next: &[u8; plan::PAIRS],
+    rules: Rules,
+    node: Node,
+    label: u8,
+    notes: &mut [u8],
+    m: &mut [u8],
+    n: usize,
+) -> usize
+    requires { ⌜ Exploring rules × Cells (tasksIn rules) cellCount (node .cells) × (node .state < maxStates) ⌝ }
+    requires { ⌜ Holding (tasksIn rules) (now m) n × (noteRoom ≤ length (now notes)) ⌝ }
+    ensures { λ r. ⌜ Explored rules (edgesBy (now (next .entry)) (nodeOf (tasksIn rules) node) label) (now (m .entry)) n (now (m .exit)) r ⌝ }
+{
+    let to = plan::next_state(next, node.state, label);
+    if to == 0 {
+        return n;
+    }
+    explore_label(rules, node, label, to - 1, notes, m, n)
+}
+
+// The nodes that edges lead to from a node, labels upward, join those in the store. The number of nodes then.
+fn explore_node(
+    next: &[u8; plan::PAIRS],
+    rules: Rules,
+    node: Node,
+    notes: &mut [u8],
+    m: &mut [u8],
+    n: usize,
+) -> usize
+    requires { ⌜ Exploring rules × Cells (tasksIn rules) cellCount (node .cells) × (node .state < maxStates) ⌝ }
+    requires { ⌜ Holding (tasksIn rules) (now m) n × (noteRoom ≤ length (now notes)) ⌝ }
+    ensures { λ r. ⌜ Explored rules (edgesBelow (now (next .entry)) (nodeOf (tasksIn rules) node) (2 ^ rules .count)) (now (m .entry)) n (now (m .exit)) r ⌝ }
+{
+    let labels = 1u8 << rules.count;
+    let mut known = n;
+    let mut label = 0;
+    while label < labels {
+        known = follow_label(next, rules, node, label, notes, m, known);
+        if store::MAX_ROWS < known {
+            return known;
+        }
+        label += 1;
+    }
+    known
 }
