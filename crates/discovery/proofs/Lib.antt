@@ -2,3 +2,4 @@ pub mod Rows
 pub mod Nodes
 pub mod Growing
 pub mod Labels
+pub mod Whole
