@@ -1,10 +1,11 @@
 -- The steps of the discovery, and its end. Assumes nothing.
 use mathlib.Core.Path.{_≡_, refl, sym, ap, subst, _∙_}
 use mathlib.Core.Bool.{Bool, cond}
-use mathlib.Core.List.{List, foldl}
+use mathlib.Core.List.{List, [], _∷_, map, foldl}
 use Prim.Native.Nat.{ℕ, zero, suc, _+_, _-_, _^_, _≤_, _<_}
+use native.Mathlib.Nat.{not-suc-le-zero, le-of-suc-le-suc}
 use native.Mathlib.Omega.{arith}
-use lib.ListN.{length, getD, length-append}
+use lib.ListN.{length, getD, length-append, length-map, List·getD-map}
 use borrow.Author.Tests.{lt-ltb, le-ltb}
 use Rattle.model.specs.Graph.{Node, Edge, start, edges, edgesAt, edgesTo, add, explored, nodes}
 use Rattle.model.specs.Limits.{maxNodes}
@@ -12,7 +13,12 @@ use Rattle.model.specs.Lists.{flatMap, upFrom}
 use Rattle.model.specs.Plan.{Plan, nextIn}
 use Rattle.theory.proofs.Nodes.{explored-prefix}
 use Rattle.plan.specs.View.{arcsIn}
-use Rattle.discovery.specs.Discovery.{edgesBelow}
+use Rattle.policy.specs.View.{tasksIn}
+use Rattle.policy.specs.declared.Rules.{Rules}
+use Rattle.graph.specs.View.{nodeOf}
+use Rattle.store.specs.Store.{rowAt, rowsIn}
+use Rattle.store.proofs.Rows.{rows-length, rows-at}
+use Rattle.discovery.specs.Discovery.{nodeIn, viewOf, nodesIn, Known, PlanFor, Explored, edgesBelow}
 
 -- the edges of a node by the table of next states
 pub edges-below : (P : Plan) (next : List ℕ) (count : ℕ) (u : Node) → P .arcs ≡ arcsIn next → length (P .tasks) ≡ count →
@@ -58,3 +64,39 @@ module _ (P : Plan) where
   explored-many k few h =
       subst (λ (i : ℕ). maxNodes < length (explored P i)) (let e : maxNodes - k + k ≡ maxNodes = omega arith in e)
       (omega (arith, h, longer k (maxNodes - k)))
+
+-- a default is not read
+getD-default : (l : List Node) (i : ℕ) (d e : Node) → i < length l → getD l i d ≡ getD l i e
+getD-default [] i d e h = absurd (not-suc-le-zero h)
+getD-default (x ∷ l) zero d e h = refl
+getD-default (x ∷ l) (suc i) d e h = getD-default l i d e (le-of-suc-le-suc h)
+
+-- the k-th row is explored next
+module _ (P : Plan) (r : Rules) (for : PlanFor P r) (next : List ℕ) (arcs : P .arcs ≡ arcsIn next) (size : length (P .tasks) ≡ r .count)
+    (first m : List ℕ) (known k : ℕ) (few : known ≤ maxNodes) (below : k < known) (held : Known (tasksIn r) (explored P k) first m known) where
+  pub row-node-at : nodeOf (tasksIn r) (nodeIn (rowAt m k)) ≡ getD (explored P k) k start
+  unfolding nodesIn
+  row-node-at =
+      sym (ap (viewOf (tasksIn r)) (rows-at m known k below)) ∙ sym (List·getD-map (viewOf (tasksIn r)) (rowsIn m known) k [])
+      ∙ getD-default (map (viewOf (tasksIn r)) (rowsIn m known)) k (viewOf (tasksIn r) []) start
+      (omega (arith, length-map (rowsIn m known) (viewOf (tasksIn r)), rows-length m known))
+      ∙ ap (λ (l : List Node). getD l k start) (held .held few .1)
+
+  known-length : length (explored P k) ≡ known
+  unfolding nodesIn
+  known-length = ap length (sym (held .held few .1)) ∙ length-map (rowsIn m known) (viewOf (tasksIn r)) ∙ rows-length m known
+
+  pub turn : (m′ : List ℕ) (q : ℕ) → Explored r (edgesBelow next (nodeOf (tasksIn r) (nodeIn (rowAt m k))) (2 ^ r .count)) m known m′ q →
+      Known (tasksIn r) (explored P (suc k)) first m′ q
+  turn m′ q x =
+      let now = x .known P for in
+      let same : foldl add (nodesIn (tasksIn r) m known) (edgesBelow next (nodeOf (tasksIn r) (nodeIn (rowAt m k))) (2 ^ r .count) P) ≡ explored P (suc k) =
+      ap (λ (l : List Node). foldl add l (edgesBelow next (nodeOf (tasksIn r) (nodeIn (rowAt m k))) (2 ^ r .count) P)) (held .held few .1)
+      ∙ ap (λ (u : Node). foldl add (explored P k) (edgesBelow next u (2 ^ r .count) P)) row-node-at
+      ∙ ap (foldl add (explored P k)) (edges-below P next (r .count) (getD (explored P k) k start) arcs size)
+      ∙ explored-step P k (omega (arith, known-length)) in
+      record {
+        held = λ h. let t = now .held h in (t .0, t .1 ∙ same);
+        many = λ h. subst (λ (l : List Node). maxNodes < length l) same (now .many h);
+        beyond = now .beyond ∙ held .beyond;
+      }
