@@ -1,17 +1,21 @@
 -- The steps of the discovery, and its end. Assumes nothing.
 use mathlib.Core.Path.{_≡_, refl, sym, ap, subst, _∙_}
 use mathlib.Core.Bool.{Bool, cond}
-use mathlib.Core.List.{List, [], _∷_, map, foldl}
+use mathlib.Core.List.{List, [], _∷_, map, foldl, List·Memᴰ}
 use Prim.Native.Nat.{ℕ, zero, suc, _+_, _-_, _^_, _≤_, _<_}
 use native.Mathlib.Nat.{not-suc-le-zero, le-of-suc-le-suc}
 use native.Mathlib.Omega.{arith}
 use lib.ListN.{length, getD, length-append, length-map, List·getD-map}
 use borrow.Author.Tests.{lt-ltb, le-ltb}
-use Rattle.model.specs.Graph.{Node, Edge, start, edges, edgesAt, edgesTo, add, explored, nodes}
-use Rattle.model.specs.Limits.{maxNodes}
+use Rattle.model.specs.Graph.{Node, Edge, start, edges, edgesAt, edgesTo, edgeOf, add, explored, nodes}
+use Rattle.model.specs.Limits.{maxNodes, maxStates}
 use Rattle.model.specs.Lists.{flatMap, upFrom}
-use Rattle.model.specs.Plan.{Plan, nextIn}
-use Rattle.theory.proofs.Nodes.{explored-prefix}
+use Rattle.model.specs.Plan.{Plan, nextIn, IsSound}
+use Rattle.model.specs.Walk.{Walk, here, go}
+use Rattle.model.proofs.Lists.{mem-getD}
+use Rattle.theory.proofs.Nodes.{explored-prefix, explored-reachable}
+use Rattle.theory.proofs.Edges.{mem-edges}
+use Rattle.theory.proofs.Sound.{sound-plan, nextIn-arc}
 use Rattle.plan.specs.View.{arcsIn}
 use Rattle.policy.specs.View.{tasksIn}
 use Rattle.policy.specs.declared.Rules.{Rules}
@@ -100,3 +104,21 @@ module _ (P : Plan) (r : Rules) (for : PlanFor P r) (next : List ℕ) (arcs : P 
         many = λ h. subst (λ (l : List Node). maxNodes < length l) same (now .many h);
         beyond = now .beyond ∙ held .beyond;
       }
+
+-- a sound plan's walks stay within the states
+module _ (P : Plan) (s : IsSound P) where
+  edge-state : (u : Node) (e : Edge) → List·Memᴰ e (edges P u) → e .to .state < maxStates
+  unfolding edgeOf
+  edge-state u e h =
+      let r = mem-edges P u e .0 h .at in
+      let a = nextIn-arc (P .arcs) (u .state) (mem-edges P u e .0 h .label) (r .next) (r .admitted) in
+      let arc = sound-plan P s .arc (a .0) (a .1) .toBelow in
+      let to : e .to .state ≡ r .next = ap (λ (f : Edge). f .to .state) (r .is) in
+      omega (arith, arc, a .4, to, sound-plan P s .statesFit)
+
+  walk-state : {u v : Node} {es : List Edge} → Walk P u v es → u .state < maxStates → v .state < maxStates
+  walk-state here h = h
+  walk-state (go {u} {v} {e} k w) h = walk-state w (edge-state u e k)
+
+  pub state-below : (k i : ℕ) → i < length (explored P k) → getD (explored P k) i start .state < maxStates
+  state-below k i h = walk-state (explored-reachable P k (getD (explored P k) i start) (mem-getD (explored P k) i start h) .1) (omega arith)
