@@ -6,7 +6,7 @@ use mathlib.Core.List.{List, [], _∷_, _++_, map, map-append, append-nil, foldl
 use Prim.Native.Nat.{ℕ, zero, suc, _+_, _-_, _*_, _%_, _^_, _≤_, _<_}
 use native.Mathlib.Nat.{zero-add}
 use native.Mathlib.Omega.{arith}
-use lib.ListN.{length, length-append, length-map}
+use lib.ListN.{length, length-append}
 use Rattle.model.specs.Graph as model
 use Rattle.model.specs.Graph.{among}
 use Rattle.model.specs.Limits.{maxNodes, maxTasks}
@@ -14,11 +14,10 @@ use Rattle.model.specs.Lists.{flatMap, upFrom}
 use Rattle.model.proofs.Lists.{upFrom-append, flatMap-append}
 use Rattle.model.specs.Plan.{Plan}
 use Rattle.plan.specs.View.{nextOf}
-use Rattle.policy.specs.View.{Tasks, cellCount, Cells, tasksIn}
+use Rattle.policy.specs.View.{Tasks, tasksIn}
 use Rattle.policy.specs.declared.Rules.{Rules}
 use Rattle.graph.specs.Outcomes.{patternIn}
-use Rattle.store.proofs.Rows.{rows-length}
-use Rattle.discovery.specs.Discovery.{nodesIn, Holding, addNode, Known, Stored, Adds, nodesWith, orderIn, PlanFor, Explored, edgesBy, edgesBelow}
+use Rattle.discovery.specs.Discovery.{nodesIn, Holding, addNode, Known, Stored, Adds, nodesWith, orderIn, Explored, edgesBy, edgesBelow}
 
 -- none is lost
 add-longer : (ns : List model.Node) (v : model.Node) → length ns ≤ length (addNode ns v)

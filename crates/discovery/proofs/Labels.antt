@@ -1,23 +1,23 @@
 -- The nodes that a label leads to are those of its noted patterns. Assumes nothing.
-use mathlib.Core.Path.{_≡_, refl, sym, ap, subst, _∙_}
+use mathlib.Core.Path.{_≡_, sym, ap, subst, _∙_}
 use mathlib.Core.Bool.{Bool, true, false, cond}
 use mathlib.Core.Option.{some}
-use mathlib.Core.List.{List, [], _∷_, _++_, map, foldl, List·Memᴰ, List·Memᴰ·head, List·Memᴰ·tail, List·Memᴰ·not-nil, List·Memᴰ·append-cases, List·Memᴰ·eq-of-singleton, Memᴰ·of-map, Memᴰ·map}
+use mathlib.Core.List.{List, [], _∷_, _++_, map, foldl, List·Memᴰ, List·Memᴰ·head, List·Memᴰ·tail, List·Memᴰ·not-nil, List·Memᴰ·append-cases, List·Memᴰ·eq-of-singleton, Memᴰ·of-map}
 use mathlib.Core.Logic.{⊎-elim}
-use Prim.Native.Nat.{ℕ, _+_, _/_, _≤_, _<_}
+use Prim.Native.Nat.{ℕ, _/_, _<_}
 use native.Mathlib.Omega.{arith}
 use lib.ListN.{length, getD, length-map}
 use Rattle.model.specs.Graph as model
 use Rattle.model.specs.Graph.{choices, joined, edgesTo}
 use Rattle.model.specs.Lists.{upFrom}
 use Rattle.model.specs.Masks.{maskCount}
-use Rattle.model.specs.Plan.{Task, Plan}
+use Rattle.model.specs.Plan.{Plan}
 use Rattle.model.specs.Slot as model-slot
 use Rattle.model.proofs.Lists.{length-upFrom, getD-table, mem-getD}
-use Rattle.policy.specs.View.{Tasks, cellCount, jobsOf, TasksInRange, Cells, tasksIn, Slotted}
+use Rattle.policy.specs.View.{Tasks, jobsOf, TasksInRange, tasksIn, Slotted}
 use Rattle.policy.specs.declared.Rules.{Rules}
 use Rattle.policy.specs.declared.Done.{Done}
-use Rattle.graph.specs.Outcomes.{patternCount, outcomes, Notes, note, noteRoom, patternIn, notesIn, nothingNoted, Noting, Cleared}
+use Rattle.graph.specs.Outcomes.{patternCount, outcomes, Notes, note, patternIn, notesIn, Noting, Cleared}
 use Rattle.graph.specs.View.{nodeOf}
 use Rattle.graph.specs.declared.Node.{Node}
 use Rattle.graph.proofs.Notes.{few}

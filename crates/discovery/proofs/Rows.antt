@@ -1,9 +1,9 @@
 -- Laws of a node's row. Assumes nothing.
-use mathlib.Core.Path.{_≡_, refl, sym, ap, ap₂, _∙_}
+use mathlib.Core.Path.{_≡_, sym, ap, _∙_}
 use mathlib.Core.List.{List, [], _∷_, _++_, append-assoc}
-use Prim.Native.Nat.{ℕ, _+_, _<_, _≤_}
+use Prim.Native.Nat.{ℕ, _+_}
 use native.Mathlib.Omega.{arith}
-use lib.ListN.{length, getD, set, take, drop, length-append}
+use lib.ListN.{length, getD, set, take, length-append}
 use lib.Seq.{take-all, take-append-seam, getD-append-seam, getD-append-add}
 use Rattle.model.specs.Bytes.{overwrite, part}
 use Rattle.words.proofs.Memory.{overwrite-all, overwrite-more, part-more}
