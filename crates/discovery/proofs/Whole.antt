@@ -17,7 +17,7 @@ use Rattle.theory.proofs.Nodes.{explored-prefix, explored-reachable}
 use Rattle.theory.proofs.Edges.{mem-edges}
 use Rattle.theory.proofs.Sound.{sound-plan, nextIn-arc}
 use Rattle.plan.specs.View.{arcsIn}
-use Rattle.policy.specs.View.{tasksIn}
+use Rattle.policy.specs.View.{Tasks, tasksIn}
 use Rattle.policy.specs.declared.Rules.{Rules}
 use Rattle.graph.specs.View.{nodeOf}
 use Rattle.store.specs.Store.{rowAt, rowsIn}
@@ -86,7 +86,7 @@ module _ (P : Plan) (r : Rules) (for : PlanFor P r) (next : List ℕ) (arcs : P 
       (omega (arith, length-map (rowsIn m known) (viewOf (tasksIn r)), rows-length m known))
       ∙ ap (λ (l : List Node). getD l k start) (held .held few .1)
 
-  known-length : length (explored P k) ≡ known
+  pub known-length : length (explored P k) ≡ known
   unfolding nodesIn
   known-length = ap length (sym (held .held few .1)) ∙ length-map (rowsIn m known) (viewOf (tasksIn r)) ∙ rows-length m known
 
@@ -122,3 +122,18 @@ module _ (P : Plan) (s : IsSound P) where
 
   pub state-below : (k i : ℕ) → i < length (explored P k) → getD (explored P k) i start .state < maxStates
   state-below k i h = walk-state (explored-reachable P k (getD (explored P k) i start) (mem-getD (explored P k) i start h) .1) (omega arith)
+
+-- at the end, the nodes
+module _ (P : Plan) (ts : Tasks) (first m : List ℕ) (q k : ℕ) (few : k ≤ maxNodes) (known : Known ts (explored P k) first m q) where
+  pub whole-many : maxNodes < q → Known ts (nodes P) first m q
+  whole-many more = record {
+    held = λ h. absurd (omega arith);
+    many = λ h. explored-many P k few (known .many h);
+    beyond = known .beyond;
+  }
+
+  pub whole-end : q ≤ maxNodes → q ≤ k → Known ts (nodes P) first m q
+  unfolding nodesIn
+  whole-end fits done =
+      let size : length (explored P k) ≡ q = ap length (sym (known .held fits .1)) ∙ length-map (rowsIn m q) (viewOf ts) ∙ rows-length m q in
+      subst (λ (l : List Node). Known ts l first m q) (explored-all P k few (omega (arith, size))) known

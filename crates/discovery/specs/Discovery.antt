@@ -7,7 +7,7 @@ use lib.ListN.{length, getD, take, drop}
 use Rattle.model.specs.Graph as model
 use Rattle.model.specs.Limits.{maxNodes}
 use Rattle.model.specs.Lists.{flatMap, upFrom}
-use Rattle.model.specs.Plan.{Plan, nextIn}
+use Rattle.model.specs.Plan.{Plan, nextIn, IsSound}
 use Rattle.plan.specs.View.{arcsIn}
 use Rattle.policy.specs.View.{Tasks, cellCount, jobsOf, Cells, tasksIn, Ruled}
 use Rattle.policy.specs.declared.Rules.{Rules}
@@ -110,3 +110,16 @@ edgesBy next u l P = model.edgesTo P u l (nextIn (arcsIn next) (u .state) l)
 
 abbrev pub edgesBelow : List ℕ → model.Node → ℕ → Plan → List model.Edge
 edgesBelow next u k P = flatMap (λ l. edgesBy next u l P) (upFrom 0 k)
+
+-- a sound plan with these rules and this table
+pub record Planned (P : Plan) (r : Rules) (next : List ℕ) : Type 0 where
+  pub for : PlanFor P r
+  pub arcs : P .arcs ≡ arcsIn next
+  pub sound : IsSound P
+
+-- there is one, and the store holds the start node
+pub record Begun (r : Rules) (next memory : List ℕ) (n : ℕ) : Type 0 where
+  pub plan : Plan
+  pub planned : Planned plan r next
+  pub held : Holding (tasksIn r) memory n
+  pub nodes : nodesIn (tasksIn r) memory n ≡ model.start ∷ []

@@ -8,13 +8,14 @@ ghost use lib.ListN.{length};
 ghost use mathlib.Core.List.{[], _∷_};
 ghost use Prim.Native.Nat.{_^_, _<_, _≤_};
 ghost use mathlib.Core.Option.{some};
-ghost use Rattle.model.specs.Graph.{edgesTo};
+ghost use Rattle.model.specs.Graph.{edgesTo, nodes};
 ghost use Rattle.model.specs.Limits.{maxStates};
+ghost use Rattle.model.specs.Plan.{Plan};
 ghost use Rattle.policy.specs.View.{cellCount, Cells, tasksIn};
 ghost use Rattle.graph.specs.Outcomes.{patternIn, noteRoom};
 ghost use Rattle.graph.specs.View.{nodeOf};
 ghost use Rattle.store.specs.Store.{rowBytes};
-ghost use Rattle.discovery.specs.Discovery.{rowOf, nodeIn, Stored, Adds, nodesWith, orderIn, Readable, Holding, Exploring, Explored, edgesBy, edgesBelow};
+ghost use Rattle.discovery.specs.Discovery.{rowOf, nodeIn, Stored, Adds, nodesWith, orderIn, Readable, Holding, Exploring, Explored, edgesBy, edgesBelow, Known, Planned, Begun};
 
 // Where the pattern and the state stand in a row, behind the cells.
 const TAKEN: usize = policy::CELLS;
@@ -179,6 +180,31 @@ fn explore_node(
             return known;
         }
         label += 1;
+    }
+    known
+}
+
+// Explores the nodes in the store by number, from the start node on. The number of nodes then.
+fn explore_all(
+    next: &[u8; plan::PAIRS],
+    rules: Rules,
+    notes: &mut [u8],
+    m: &mut [u8],
+    n: usize,
+) -> usize
+    requires { ⌜ Exploring rules × Begun rules (now next) (now m) n × (noteRoom ≤ length (now notes)) ⌝ }
+    ensures { λ r. ⌜ ((P : Plan) → Planned P rules (now (next .entry)) → Known (tasksIn rules) (nodes P) (now (m .entry)) (now (m .exit)) r) ⌝ }
+{
+    let mut known = n;
+    let mut k = 0;
+    while k < known {
+        let row = store::row(m, k);
+        let node = node_of(row);
+        known = explore_node(next, rules, node, notes, m, known);
+        if store::MAX_ROWS < known {
+            return known;
+        }
+        k += 1;
     }
     known
 }
