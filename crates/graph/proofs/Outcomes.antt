@@ -266,13 +266,13 @@ joined-low w taken [] h low = h
 joined-low w taken (m ∷ ms) h low = joined-low w (bitOr taken m) ms (or-lt w taken m h (low 0)) (λ i. low (suc i))
 
 module _ (ts : Tasks) (range : TasksInRange ts) (l taken : ℕ) (low : taken < maskCount) where
-  abbrev notes : Notes
+  abbrev pub notes : Notes
   notes = notedOf ts l taken nothingNoted
 
-  abbrev patternOf : List ℕ → ℕ
+  abbrev pub patternOf : List ℕ → ℕ
   patternOf ms = joined taken ms / 2
 
-  pattern-low : (ms : List ℕ) → List·Memᴰ ms (choices ts l taken) → patternOf ms < patternCount
+  pub pattern-low : (ms : List ℕ) → List·Memᴰ ms (choices ts l taken) → patternOf ms < patternCount
   pattern-low ms m = let j : joined taken ms < maskCount = joined-low maxWindow taken ms low mask in omega arith
     where
       mask : (i : ℕ) → getD ms i 0 < 2 ^ maxWindow

@@ -1,0 +1,169 @@
+-- Nodes join one after another. Assumes nothing.
+use mathlib.Core.Path.{_≡_, refl, sym, ap, subst, _∙_}
+use mathlib.Core.Bool.{Bool, true, false, cond}
+use mathlib.Core.Option.{some}
+use mathlib.Core.List.{List, [], _∷_, _++_, map, map-append, append-nil, foldl, foldl-append}
+use Prim.Native.Nat.{ℕ, zero, suc, _+_, _-_, _*_, _%_, _^_, _≤_, _<_}
+use native.Mathlib.Nat.{zero-add}
+use native.Mathlib.Omega.{arith}
+use lib.ListN.{length, length-append}
+use Rattle.model.specs.Graph as model
+use Rattle.model.specs.Graph.{among}
+use Rattle.model.specs.Limits.{maxNodes, maxTasks}
+use Rattle.model.specs.Lists.{flatMap, upFrom}
+use Rattle.model.proofs.Lists.{upFrom-append, flatMap-append}
+use Rattle.model.specs.Plan.{Plan}
+use Rattle.plan.specs.View.{nextOf}
+use Rattle.policy.specs.View.{Tasks, tasksIn}
+use Rattle.policy.specs.declared.Rules.{Rules}
+use Rattle.graph.specs.Outcomes.{patternIn}
+use Rattle.discovery.specs.Discovery.{nodesIn, Holding, addNode, Known, Stored, Adds, nodesWith, orderIn, Explored, edgesBy, edgesBelow}
+
+-- none is lost
+add-longer : (ns : List model.Node) (v : model.Node) → length ns ≤ length (addNode ns v)
+add-longer ns v = by (among v ns)
+  where
+    by : (b : Bool) → length ns ≤ length (cond b ns (ns ++ (v ∷ [])))
+    by true = omega arith
+    by false = omega (arith, length-append ns (v ∷ []))
+
+-- of one list after another, by what joins for an element
+module _ {E : Type 0} (join : List model.Node → E → List model.Node) (grows : (ns : List model.Node) (e : E) → length ns ≤ length (join ns e)) where
+  fold-longer : (vs : List E) (ns : List model.Node) → length ns ≤ length (foldl join ns vs)
+  fold-longer [] ns = omega arith
+  fold-longer (v ∷ vs) ns = omega (arith, grows ns v, fold-longer vs (join ns v))
+
+  module _ (ts : Tasks) (ns : List model.Node) (vs ws : List E) (m m′ : List ℕ) (r : ℕ) (first : Known ts (foldl join ns vs) m m′ r) where
+    known-then : r ≤ maxNodes → (m″ : List ℕ) (q : ℕ) → Known ts (foldl join (nodesIn ts m′ r) ws) m′ m″ q →
+        Known ts (foldl join ns (vs ++ ws)) m m″ q
+    known-then few m″ q then =
+        let same : foldl join (nodesIn ts m′ r) ws ≡ foldl join ns (vs ++ ws) =
+        ap (λ (l : List model.Node). foldl join l ws) (first .held few .1) ∙ sym (foldl-append join ns vs ws) in
+        record {
+          held = λ h. let k = then .held h in (k .0, k .1 ∙ same);
+          many = λ h. subst (λ (l : List model.Node). maxNodes < length l) same (then .many h);
+          beyond = then .beyond ∙ first .beyond;
+        }
+
+    known-many : maxNodes < r → Known ts (foldl join ns (vs ++ ws)) m m′ r
+    known-many more = record {
+      held = λ h. absurd (omega arith);
+      many = λ h.
+          subst (λ (l : List model.Node). maxNodes < length l) (sym (foldl-append join ns vs ws))
+          (omega (arith, first .many h, fold-longer ws (foldl join ns vs)));
+      beyond = first .beyond;
+    }
+
+-- none at all
+pub known-none : (ts : Tasks) (m : List ℕ) (n : ℕ) → Holding ts m n → Known ts (nodesIn ts m n) m m n
+known-none ts m n held = record {
+  held = λ h. (held, refl);
+  many = λ h. absurd (omega (arith, held .index .few));
+  beyond = refl;
+}
+
+-- of the patterns in the notes
+module _ (cells : List ℕ) (state : ℕ) (notes m : List ℕ) (n : ℕ) where
+  abbrev pub Added : ℕ → List ℕ → ℕ → Type 0
+  Added k m′ r = Adds cells (nodesWith cells state (orderIn notes k)) m n m′ r
+
+  pub added-none : Stored m n → Added 0 m n
+  added-none stored = record { stored = λ few. stored; known = λ ts held fits. known-none ts m n held }
+
+  order-more : (k j : ℕ) (ts : Tasks) → nodesWith cells state (orderIn notes (k + j)) ts
+      ≡ nodesWith cells state (orderIn notes k) ts ++ nodesWith cells state (map (patternIn notes) (upFrom k j)) ts
+  order-more k j ts =
+      ap (λ (l : List ℕ). nodesWith cells state (map (patternIn notes) l) ts)
+      (upFrom-append 0 k j ∙ ap (λ (i : ℕ). upFrom 0 k ++ upFrom i j) (zero-add k))
+      ∙ ap (λ (l : List ℕ). nodesWith cells state l ts) (map-append (patternIn notes) (upFrom 0 k) (upFrom k j))
+      ∙ map-append _ (orderIn notes k) (map (patternIn notes) (upFrom k j))
+
+  pub added-more : (k : ℕ) (m′ : List ℕ) (r : ℕ) → r ≤ maxNodes → Added k m′ r → (p : ℕ) → p ≡ patternIn notes k → (m″ : List ℕ) (q : ℕ) →
+      Adds cells (nodesWith cells state (p ∷ [])) m′ r m″ q → Added (k + 1) m″ q
+  added-more k m′ r few first p e m″ q then = record {
+    stored = then .stored;
+    known = λ ts held fits.
+        let one = first .known ts held fits in
+        let same : nodesWith cells state (orderIn notes k) ts ++ nodesWith cells state (p ∷ []) ts ≡ nodesWith cells state (orderIn notes (k + 1)) ts =
+        ap (λ (v : ℕ). nodesWith cells state (orderIn notes k) ts ++ nodesWith cells state (v ∷ []) ts) e ∙ sym (order-more k 1 ts) in
+        subst (λ (l : List model.Node). Known ts (foldl addNode (nodesIn ts m n) l) m m″ q) same
+        (known-then addNode add-longer ts (nodesIn ts m n) (nodesWith cells state (orderIn notes k) ts) (nodesWith cells state (p ∷ []) ts) m m′ r
+        one few m″ q (then .known ts (one .held few .0) fits));
+  }
+
+  pub added-many : (k count : ℕ) (m′ : List ℕ) (r : ℕ) → k ≤ count → maxNodes < r → Added k m′ r → Added count m′ r
+  added-many k count m′ r le more first = record {
+    stored = first .stored;
+    known = λ ts held fits.
+        let all : k + (count - k) ≡ count = omega arith in
+        subst (λ (l : List model.Node). Known ts (foldl addNode (nodesIn ts m n) l) m m′ r)
+        (sym (order-more k (count - k) ts) ∙ ap (λ (c : ℕ). nodesWith cells state (orderIn notes c) ts) all)
+        (known-many addNode add-longer ts (nodesIn ts m n) (nodesWith cells state (orderIn notes k) ts) (nodesWith cells state (map (patternIn notes) (upFrom k (count - k))) ts) m m′ r (first .known ts held fits) more);
+  }
+
+-- of edges
+module _ (r : Rules) where
+  edge-longer : (ns : List model.Node) (e : model.Edge) → length ns ≤ length (model.add ns e)
+  edge-longer ns e = add-longer ns (e .to)
+
+  pub explored-none : (m : List ℕ) (n : ℕ) → Holding (tasksIn r) m n → Explored r (λ P. []) m n m n
+  explored-none m n held = record { known = λ P for. known-none (tasksIn r) m n held }
+
+  module _ (es fs : Plan → List model.Edge) (m : List ℕ) (n : ℕ) (m′ : List ℕ) (q : ℕ) (first : Explored r es m n m′ q) where
+    pub explored-held : q ≤ maxNodes → Holding (tasksIn r) m′ q
+    explored-held few =
+        first .known record { tasks = tasksIn r; policy = r .policy; states = 0; arcs = [] } record { tasks = refl; policy = refl } .held few .0
+
+    pub explored-then : q ≤ maxNodes → (m″ : List ℕ) (p : ℕ) → Explored r fs m′ q m″ p → Explored r (λ P. es P ++ fs P) m n m″ p
+    explored-then few m″ p then = record {
+      known = λ P for.
+          known-then model.add edge-longer (tasksIn r) (nodesIn (tasksIn r) m n) (es P) (fs P) m m′ q (first .known P for) few m″ p (then .known P for);
+    }
+
+    pub explored-many : maxNodes < q → Explored r (λ P. es P ++ fs P) m n m′ q
+    explored-many more = record {
+      known = λ P for. known-many model.add edge-longer (tasksIn r) (nodesIn (tasksIn r) m n) (es P) (fs P) m m′ q (first .known P for) more;
+    }
+
+-- of edges that are the same
+pub explored-same : (r : Rules) (es fs : Plan → List model.Edge) (m : List ℕ) (n : ℕ) (m′ : List ℕ) (q : ℕ) → ((P : Plan) → es P ≡ fs P) →
+    Explored r es m n m′ q → Explored r fs m n m′ q
+explored-same r es fs m n m′ q e x = record {
+  known = λ P for. subst (λ (l : List model.Edge). Known (tasksIn r) (foldl model.add (nodesIn (tasksIn r) m n) l) m m′ q) (e P) (x .known P for);
+}
+
+-- an entry of the table that is not 0
+pub next-some : (to : ℕ) → 0 < to → nextOf to ≡ some (to - 1)
+next-some zero h = absurd (omega arith)
+next-some (suc t) h = let e : t ≡ suc t - 1 = omega arith in ap some e
+
+-- of labels upward
+module _ (r : Rules) (next : List ℕ) (u : model.Node) (m : List ℕ) (n : ℕ) where
+  below-more : (k j : ℕ) (P : Plan) → edgesBelow next u (k + j) P ≡ edgesBelow next u k P ++ flatMap (λ l. edgesBy next u l P) (upFrom k j)
+  below-more k j P =
+      ap (flatMap (λ l. edgesBy next u l P)) (upFrom-append 0 k j ∙ ap (λ (i : ℕ). upFrom 0 k ++ upFrom i j) (zero-add k))
+      ∙ flatMap-append (λ l. edgesBy next u l P) (upFrom 0 k) (upFrom k j)
+
+  pub label-more : (k : ℕ) (m′ : List ℕ) (q : ℕ) → q ≤ maxNodes → Explored r (edgesBelow next u k) m n m′ q → (m″ : List ℕ) (p : ℕ) →
+      Explored r (edgesBy next u k) m′ q m″ p → Explored r (edgesBelow next u (k + 1)) m n m″ p
+  label-more k m′ q few first m″ p then =
+      explored-same r (λ P. edgesBelow next u k P ++ edgesBy next u k P) (edgesBelow next u (k + 1)) m n m″ p
+      (λ P. ap (λ (es : List model.Edge). edgesBelow next u k P ++ es) (sym (append-nil (edgesBy next u k P))) ∙ sym (below-more k 1 P))
+      (explored-then r (edgesBelow next u k) (edgesBy next u k) m n m′ q first few m″ p then)
+
+  pub label-many : (k count : ℕ) (m′ : List ℕ) (q : ℕ) → k ≤ count → maxNodes < q → Explored r (edgesBelow next u k) m n m′ q →
+      Explored r (edgesBelow next u count) m n m′ q
+  label-many k count m′ q le more first =
+      let all : k + (count - k) ≡ count = omega arith in
+      explored-same r (λ P. edgesBelow next u k P ++ flatMap (λ l. edgesBy next u l P) (upFrom k (count - k))) (edgesBelow next u count) m n m′ q
+      (λ P. sym (below-more k (count - k) P) ∙ ap (λ (c : ℕ). edgesBelow next u c P) all)
+      (explored-many r (edgesBelow next u k) (λ P. flatMap (λ l. edgesBy next u l P) (upFrom k (count - k))) m n m′ q first more)
+
+-- the number of labels of so many tasks
+pub labels-shifted : (c : ℕ) → c ≤ maxTasks → (1 * 2 ^ c) % 256 ≡ 2 ^ c
+labels-shifted zero h = refl
+labels-shifted (suc zero) h = refl
+labels-shifted (suc (suc zero)) h = refl
+labels-shifted (suc (suc (suc zero))) h = refl
+labels-shifted (suc (suc (suc (suc zero)))) h = refl
+labels-shifted (suc (suc (suc (suc (suc c))))) h = absurd (omega arith)

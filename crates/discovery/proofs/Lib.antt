@@ -1,0 +1,5 @@
+pub mod Rows
+pub mod Nodes
+pub mod Growing
+pub mod Labels
+pub mod Whole

@@ -1,0 +1,198 @@
+-- Adding a node's row to rows is adding the node to their nodes. Assumes nothing.
+use mathlib.Core.Path.{_≡_, refl, sym, ap, subst, _∙_}
+use mathlib.Core.Bool.{Bool, true, false, cond, _||_}
+use mathlib.Core.List.{List, [], _∷_, _++_, map, map-append}
+use Prim.Native.Nat.{ℕ, suc, _+_, _*_, _≤_, _<_}
+use native.Mathlib.Omega.{arith}
+use lib.Dec.{ltb}
+use lib.Seq.{getD-append-seam}
+use lib.ListN.{length, getD, length-append, length-map, List·getD-append}
+use borrow.Author.Tests.{ltb-true, ltb-false, lt-ltb, le-ltb}
+use Rattle.model.specs.Graph as model
+use Rattle.model.specs.Graph.{sameNode, among}
+use Rattle.model.specs.Limits.{maxNodes}
+use Rattle.model.specs.Lists.{sameNumbers}
+use Rattle.theory.proofs.Nodes.{same-node}
+use Rattle.policy.specs.View.{Tasks, cellCount, Cells}
+use Rattle.graph.specs.View.{nodeOf}
+use Rattle.graph.specs.declared.Node.{Node}
+use Rattle.graph.proofs.View.{same-view}
+use Rattle.words.proofs.Memory.{part-length}
+use Rattle.store.specs.declared.Found.{Found}
+use Rattle.store.specs.declared.Found.the-variants.{Full, At}
+use Rattle.store.specs.Store.{rowBytes, maxRows, rowAt, rowsIn, indexIn, Distinct, Indexed, rowsWith, foundIn, countAfter, Kept}
+use Rattle.store.proofs.Rows.{rows-length, rows-at}
+use Rattle.store.proofs.Search.{same-numbers}
+use Rattle.discovery.specs.Discovery.{rowOf, nodeIn, viewOf, nodesIn, Holding, addNode, countIn, Known, Stored, Adds}
+use Rattle.discovery.proofs.Rows.{row-node, node-row}
+
+-- a row of a node whose cells a node can hold
+pub record Row (ts : Tasks) (row : List ℕ) : Type 0 where
+  pub size : length row ≡ rowBytes
+  pub cells : Cells ts cellCount (nodeIn row .cells)
+
+same-tests : (a b : Bool) → (a ≡ true → b ≡ true) → (b ≡ true → a ≡ true) → a ≡ b
+same-tests true b f g = sym (f refl)
+same-tests false true f g = g refl
+same-tests false false f g = refl
+
+ltb-suc : (a b : ℕ) → ltb (suc a) (suc b) ≡ ltb a b
+ltb-suc a b = by (ltb a b) refl
+  where
+    by : (t : Bool) → ltb a b ≡ t → ltb (suc a) (suc b) ≡ t
+    by true e = lt-ltb (suc a) (suc b) (omega (arith, ltb-true a b e))
+    by false e = le-ltb (suc a) (suc b) (omega (arith, ltb-false a b e))
+
+module _ (ts : Tasks) (u : Node) (fits : Cells ts cellCount (u .cells)) where
+  -- rows are equal just if the nodes of the model are
+  pub row-view : (row : List ℕ) → Row ts row → sameNode (nodeOf ts u) (viewOf ts row) ≡ sameNumbers row (rowOf u)
+  row-view row ok = same-tests (sameNode (nodeOf ts u) (viewOf ts row)) (sameNumbers row (rowOf u)) to from
+    where
+      to : sameNode (nodeOf ts u) (viewOf ts row) ≡ true → sameNumbers row (rowOf u) ≡ true
+      to h =
+          let same = same-view ts u (nodeIn row) fits (ok .cells) .0 (same-node (nodeOf ts u) (viewOf ts row) .0 h) in
+          let fields : rowOf u ≡ rowOf (nodeIn row) = λ i. same .0 i ++ (same .1 i ∷ same .2 i ∷ []) in
+          same-numbers row (rowOf u) .1 (sym (fields ∙ row-node row (ok .size)))
+
+      from : sameNumbers row (rowOf u) ≡ true → sameNode (nodeOf ts u) (viewOf ts row) ≡ true
+      from h =
+          same-node (nodeOf ts u) (viewOf ts row) .1
+          (sym (ap (viewOf ts) (same-numbers row (rowOf u) .0 h) ∙ ap (nodeOf ts) (node-row u (fits .size))))
+
+  -- a node is among those of the rows just if its row is found
+  pub among-index : (rows : List (List ℕ)) → ((j : ℕ) → j < length rows → Row ts (getD rows j [])) →
+      among (nodeOf ts u) (map (viewOf ts) rows) ≡ ltb (indexIn rows (rowOf u)) (length rows)
+  unfolding indexIn
+  among-index [] ok = refl
+  among-index (r ∷ rows) ok = by (sameNumbers r (rowOf u)) (row-view r (ok 0 (omega arith))) (among-index rows (λ j h. ok (suc j) (omega arith)))
+    where
+      by : (b : Bool) → sameNode (nodeOf ts u) (viewOf ts r) ≡ b →
+          among (nodeOf ts u) (map (viewOf ts) rows) ≡ ltb (indexIn rows (rowOf u)) (length rows) →
+          among (nodeOf ts u) (map (viewOf ts) (r ∷ rows)) ≡ ltb (cond b 0 (suc (indexIn rows (rowOf u)))) (suc (length rows))
+      by true e later =
+          ap (λ (t : Bool). t || among (nodeOf ts u) (map (viewOf ts) rows)) e ∙ sym (lt-ltb 0 (suc (length rows)) (omega arith))
+      by false e later = ap (λ (t : Bool). t || among (nodeOf ts u) (map (viewOf ts) rows)) e ∙ later ∙ sym (ltb-suc (indexIn rows (rowOf u)) (length rows))
+
+  -- its own row
+  own-row : Row ts (rowOf u)
+  own-row = record {
+    size = length-append (u .cells) (u .taken ∷ u .state ∷ []) ∙ ap (λ (n : ℕ). n + 2) (fits .size);
+    cells = subst (Cells ts cellCount) (sym (ap (λ (w : Node). w .cells) (node-row u (fits .size)))) fits;
+  }
+
+  own-view : viewOf ts (rowOf u) ≡ nodeOf ts u
+  own-view = ap (nodeOf ts) (node-row u (fits .size))
+
+  module _ (rows : List (List ℕ)) (ok : (j : ℕ) → j < length rows → Row ts (getD rows j [])) where
+    abbrev ns : List model.Node
+    ns = map (viewOf ts) rows
+
+    with-own : (j : ℕ) → j < length (rows ++ (rowOf u ∷ [])) → Row ts (getD (rows ++ (rowOf u ∷ [])) j [])
+    with-own j h = by (ltb j (length rows)) refl
+      where
+        by : (b : Bool) → ltb j (length rows) ≡ b → Row ts (getD (rows ++ (rowOf u ∷ [])) j [])
+        by true e =
+            let below = ltb-true j (length rows) e in
+            subst (Row ts) (sym (List·getD-append rows (rowOf u ∷ []) [] j below)) (ok j below)
+        by false e =
+            let last : j ≡ length rows = omega (arith, ltb-false j (length rows) e, length-append rows (rowOf u ∷ [])) in
+            subst (Row ts) (sym (ap (λ (k : ℕ). getD (rows ++ (rowOf u ∷ [])) k []) last ∙ getD-append-seam rows (rowOf u) [] [])) own-row
+
+    -- the row is there: the node is
+    add-there : ltb (indexIn rows (rowOf u)) (length rows) ≡ true → addNode ns (nodeOf ts u) ≡ ns
+    add-there e = ap (λ (b : Bool). cond b ns (ns ++ (nodeOf ts u ∷ []))) (among-index rows ok ∙ e)
+
+    -- it is not: the node joins
+    add-new : ltb (indexIn rows (rowOf u)) (length rows) ≡ false → addNode ns (nodeOf ts u) ≡ ns ++ (nodeOf ts u ∷ [])
+    add-new e = ap (λ (b : Bool). cond b ns (ns ++ (nodeOf ts u ∷ []))) (among-index rows ok ∙ e)
+
+    new-nodes : map (viewOf ts) (rows ++ (rowOf u ∷ [])) ≡ ns ++ (nodeOf ts u ∷ [])
+    new-nodes = map-append (viewOf ts) rows (rowOf u ∷ []) ∙ ap (λ (v : model.Node). ns ++ (v ∷ [])) own-view
+
+-- the rows of a store
+pub held-row : (ts : Tasks) (m : List ℕ) (n : ℕ) → Holding ts m n → (j : ℕ) → j < length (rowsIn m n) → Row ts (getD (rowsIn m n) j [])
+held-row ts m n held j h =
+    let below : j < n = omega (arith, rows-length m n) in
+    subst (Row ts) (sym (rows-at m n j below)) record {
+      size = part-length m (rowBytes * j) rowBytes (omega (arith, held .index .few, held .index .room));
+      cells = held .cells j below;
+    }
+
+holding : (ts : Tasks) (m : List ℕ) (n : ℕ) (rows : List (List ℕ)) → rowsIn m n ≡ rows → Indexed m n → Distinct (rowsIn m n) →
+    ((j : ℕ) → j < length rows → Row ts (getD rows j [])) → Holding ts m n
+holding ts m n rows e index distinct ok = record {
+  index = index;
+  distinct = distinct;
+  cells = λ j h.
+      let below : j < length rows = subst (λ (l : List (List ℕ)). j < length l) e (omega (arith, rows-length m n)) in
+      let same : getD rows j [] ≡ rowAt m j = ap (λ (l : List (List ℕ)). getD l j []) (sym e) ∙ rows-at m n j h in
+      subst (λ (r : List ℕ). Cells ts cellCount (nodeIn r .cells)) same (ok j below .cells);
+}
+
+module _ (ts : Tasks) (u : Node) (fits : Cells ts cellCount (u .cells)) (m m′ : List ℕ) (n : ℕ) (held : Holding ts m n) where
+  abbrev target : List model.Node
+  target = addNode (nodesIn ts m n) (nodeOf ts u)
+
+  abbrev rows : List (List ℕ)
+  rows = rowsIn m n
+
+  ok : (j : ℕ) → j < length rows → Row ts (getD rows j [])
+  ok = held-row ts m n held
+
+  -- an answer with a number of rows, which are these
+  known-at : (i c : ℕ) (after : List (List ℕ)) → Kept m m′ n (rowOf u) (At i c) → rowsIn m′ c ≡ after →
+      ((j : ℕ) → j < length after → Row ts (getD after j [])) → map (viewOf ts) after ≡ target → Known ts target m m′ c
+  unfolding nodesIn
+  known-at i c after kept e good same = record {
+    held = λ few. (holding ts m′ c after e (kept .index) (kept .distinct) good, ap (map (viewOf ts)) e ∙ same);
+    many = λ more. absurd (omega (arith, kept .index .few));
+    beyond = kept .beyond;
+  }
+
+  known-kept : (r : Found) → Kept m m′ n (rowOf u) r → Known ts target m m′ (countIn r)
+  unfolding nodesIn foundIn rowsWith
+  known-kept r kept = by (ltb (indexIn rows (rowOf u)) (length rows)) refl (ltb (length rows) maxRows) refl (kept .found) (kept .rows)
+    where
+      i : ℕ
+      i = indexIn rows (rowOf u)
+
+      Result : Found → Type 0
+      Result q = Known ts target m m′ (countIn q)
+
+      by : (a : Bool) → ltb i (length rows) ≡ a → (b : Bool) → ltb (length rows) maxRows ≡ b →
+          r ≡ cond a (At i (length rows)) (cond b (At i (length rows + 1)) Full) →
+          rowsIn m′ (countAfter n r) ≡ cond a rows (cond b (rows ++ (rowOf u ∷ [])) rows) → Result r
+      by true e b f at same =
+          subst Result (sym at)
+          (known-at i (length rows) rows (subst (Kept m m′ n (rowOf u)) at kept)
+          (ap (λ (q : Found). rowsIn m′ (countAfter n q)) (sym at) ∙ same) ok (sym (add-there ts u fits rows ok e)))
+      by false e true f at same =
+          subst Result (sym at)
+          (known-at i (length rows + 1) (rows ++ (rowOf u ∷ [])) (subst (Kept m m′ n (rowOf u)) at kept)
+          (ap (λ (q : Found). rowsIn m′ (countAfter n q)) (sym at) ∙ same) (with-own ts u fits rows ok)
+          (new-nodes ts u fits rows ok ∙ sym (add-new ts u fits rows ok e)))
+      by false e false f at same =
+          let more : length target ≡ length rows + 1 =
+          ap length (add-new ts u fits rows ok e) ∙ length-append (map (viewOf ts) rows) (nodeOf ts u ∷ [])
+          ∙ ap (λ (k : ℕ). k + 1) (length-map rows (viewOf ts)) in
+          subst Result (sym at) record {
+            held = λ few. absurd (omega arith);
+            many = λ h. omega (arith, more, ltb-false (length rows) maxRows f);
+            beyond = kept .beyond;
+          }
+
+-- the same, with what is known of the row and of the answer
+pub adds-answer : (u : Node) (m m′ : List ℕ) (n : ℕ) (row : List ℕ) → row ≡ rowOf u → (r q : Found) → Kept m m′ n row r → r ≡ q →
+    Adds (u .cells) (λ ts. nodeOf ts u ∷ []) m n m′ (countIn q)
+adds-answer u m m′ n row same r q kept e = record { stored = λ few. stored q (subst (Kept m m′ n (rowOf u)) e kept′) few; known = known }
+  where
+    kept′ : Kept m m′ n (rowOf u) r
+    kept′ = subst (λ (l : List ℕ). Kept m m′ n l r) same kept
+
+    stored : (a : Found) → Kept m m′ n (rowOf u) a → countIn a ≤ maxNodes → Stored m′ (countIn a)
+    stored Full k few = absurd (omega arith)
+    stored (At i c) k few = record { index = k .index; distinct = k .distinct }
+
+    known : (ts : Tasks) → Holding ts m n → Cells ts cellCount (u .cells) → Known ts (addNode (nodesIn ts m n) (nodeOf ts u)) m m′ (countIn q)
+    known ts held fits =
+        subst (λ (a : Found). Known ts (addNode (nodesIn ts m n) (nodeOf ts u)) m m′ (countIn a)) e (known-kept ts u fits m m′ n held r kept′)

@@ -1,0 +1,139 @@
+-- The steps of the discovery, and its end. Assumes nothing.
+use mathlib.Core.Path.{_≡_, refl, sym, ap, subst, _∙_}
+use mathlib.Core.Bool.{Bool, cond}
+use mathlib.Core.List.{List, [], _∷_, map, foldl, List·Memᴰ}
+use Prim.Native.Nat.{ℕ, zero, suc, _+_, _-_, _^_, _≤_, _<_}
+use native.Mathlib.Nat.{not-suc-le-zero, le-of-suc-le-suc}
+use native.Mathlib.Omega.{arith}
+use lib.ListN.{length, getD, length-append, length-map, List·getD-map}
+use borrow.Author.Tests.{lt-ltb, le-ltb}
+use Rattle.model.specs.Graph.{Node, Edge, start, edges, edgesAt, edgesTo, edgeOf, add, explored, nodes}
+use Rattle.model.specs.Limits.{maxNodes, maxStates}
+use Rattle.model.specs.Lists.{flatMap, upFrom}
+use Rattle.model.specs.Plan.{Plan, nextIn, IsSound}
+use Rattle.model.specs.Walk.{Walk, here, go}
+use Rattle.model.proofs.Lists.{mem-getD}
+use Rattle.theory.proofs.Nodes.{explored-prefix, explored-reachable}
+use Rattle.theory.proofs.Edges.{mem-edges}
+use Rattle.theory.proofs.Sound.{sound-plan, nextIn-arc}
+use Rattle.plan.specs.View.{arcsIn}
+use Rattle.policy.specs.View.{Tasks, tasksIn}
+use Rattle.policy.specs.declared.Rules.{Rules}
+use Rattle.graph.specs.View.{nodeOf}
+use Rattle.store.specs.Store.{rowAt, rowsIn}
+use Rattle.store.proofs.Rows.{rows-length, rows-at}
+use Rattle.discovery.specs.Discovery.{nodeIn, viewOf, nodesIn, Known, PlanFor, Explored, edgesBelow}
+
+-- the edges of a node by the table of next states
+pub edges-below : (P : Plan) (next : List ℕ) (count : ℕ) (u : Node) → P .arcs ≡ arcsIn next → length (P .tasks) ≡ count →
+    edgesBelow next u (2 ^ count) P ≡ edges P u
+unfolding edges edgesAt
+edges-below P next count u arcs size =
+    λ i. flatMap (λ l. edgesTo P u l (nextIn (sym arcs i) (u .state) l)) (upFrom 0 (2 ^ sym size i))
+
+module _ (P : Plan) where
+  -- a known node is explored
+  pub explored-step : (k : ℕ) → k < length (explored P k) → foldl add (explored P k) (edges P (getD (explored P k) k start)) ≡ explored P (suc k)
+  unfolding explored
+  explored-step k h =
+      sym (ap (λ (b : Bool). cond b (foldl add (explored P k) (edges P (getD (explored P k) k start))) (explored P k)) (lt-ltb k (length (explored P k)) h))
+
+  -- past the last one nothing joins
+  past : (k : ℕ) → length (explored P k) ≤ k → explored P (suc k) ≡ explored P k
+  unfolding explored
+  past k h = ap (λ (b : Bool). cond b (foldl add (explored P k) (edges P (getD (explored P k) k start))) (explored P k)) (le-ltb k (length (explored P k)) h)
+
+  rest : (k j : ℕ) → length (explored P k) ≤ k → explored P (j + k) ≡ explored P k
+  rest k zero h = ap (explored P) (let e : 0 + k ≡ k = omega arith in e)
+  rest k (suc j) h =
+      let later = rest k j h in
+      ap (explored P) (let e : suc j + k ≡ suc (j + k) = omega arith in e)
+      ∙ past (j + k) (omega (arith, ap length later)) ∙ later
+
+  -- the nodes are those known once all have been explored
+  pub explored-all : (k : ℕ) → k ≤ maxNodes → length (explored P k) ≤ k → explored P k ≡ nodes P
+  unfolding nodes
+  explored-all k few h = sym (rest k (maxNodes - k) h) ∙ ap (explored P) (let e : maxNodes - k + k ≡ maxNodes = omega arith in e)
+
+  longer : (k j : ℕ) → length (explored P k) ≤ length (explored P (j + k))
+  longer k zero = subst (λ (i : ℕ). length (explored P k) ≤ length (explored P i)) (let e : k ≡ 0 + k = omega arith in e) (omega arith)
+  longer k (suc j) =
+      let more = explored-prefix P (j + k) in
+      subst (λ (i : ℕ). length (explored P k) ≤ length (explored P i)) (let e : suc (j + k) ≡ suc j + k = omega arith in e)
+      (omega (arith, longer k j, ap length (more .1), length-append (explored P (j + k)) (more .0)))
+
+  -- too many once are too many in the end
+  pub explored-many : (k : ℕ) → k ≤ maxNodes → maxNodes < length (explored P k) → maxNodes < length (nodes P)
+  unfolding nodes
+  explored-many k few h =
+      subst (λ (i : ℕ). maxNodes < length (explored P i)) (let e : maxNodes - k + k ≡ maxNodes = omega arith in e)
+      (omega (arith, h, longer k (maxNodes - k)))
+
+-- a default is not read
+getD-default : (l : List Node) (i : ℕ) (d e : Node) → i < length l → getD l i d ≡ getD l i e
+getD-default [] i d e h = absurd (not-suc-le-zero h)
+getD-default (x ∷ l) zero d e h = refl
+getD-default (x ∷ l) (suc i) d e h = getD-default l i d e (le-of-suc-le-suc h)
+
+-- the k-th row is explored next
+module _ (P : Plan) (r : Rules) (for : PlanFor P r) (next : List ℕ) (arcs : P .arcs ≡ arcsIn next) (size : length (P .tasks) ≡ r .count)
+    (first m : List ℕ) (known k : ℕ) (few : known ≤ maxNodes) (below : k < known) (held : Known (tasksIn r) (explored P k) first m known) where
+  pub row-node-at : nodeOf (tasksIn r) (nodeIn (rowAt m k)) ≡ getD (explored P k) k start
+  unfolding nodesIn
+  row-node-at =
+      sym (ap (viewOf (tasksIn r)) (rows-at m known k below)) ∙ sym (List·getD-map (viewOf (tasksIn r)) (rowsIn m known) k [])
+      ∙ getD-default (map (viewOf (tasksIn r)) (rowsIn m known)) k (viewOf (tasksIn r) []) start
+      (omega (arith, length-map (rowsIn m known) (viewOf (tasksIn r)), rows-length m known))
+      ∙ ap (λ (l : List Node). getD l k start) (held .held few .1)
+
+  pub known-length : length (explored P k) ≡ known
+  unfolding nodesIn
+  known-length = ap length (sym (held .held few .1)) ∙ length-map (rowsIn m known) (viewOf (tasksIn r)) ∙ rows-length m known
+
+  pub turn : (m′ : List ℕ) (q : ℕ) → Explored r (edgesBelow next (nodeOf (tasksIn r) (nodeIn (rowAt m k))) (2 ^ r .count)) m known m′ q →
+      Known (tasksIn r) (explored P (suc k)) first m′ q
+  turn m′ q x =
+      let now = x .known P for in
+      let same : foldl add (nodesIn (tasksIn r) m known) (edgesBelow next (nodeOf (tasksIn r) (nodeIn (rowAt m k))) (2 ^ r .count) P) ≡ explored P (suc k) =
+      ap (λ (l : List Node). foldl add l (edgesBelow next (nodeOf (tasksIn r) (nodeIn (rowAt m k))) (2 ^ r .count) P)) (held .held few .1)
+      ∙ ap (λ (u : Node). foldl add (explored P k) (edgesBelow next u (2 ^ r .count) P)) row-node-at
+      ∙ ap (foldl add (explored P k)) (edges-below P next (r .count) (getD (explored P k) k start) arcs size)
+      ∙ explored-step P k (omega (arith, known-length)) in
+      record {
+        held = λ h. let t = now .held h in (t .0, t .1 ∙ same);
+        many = λ h. subst (λ (l : List Node). maxNodes < length l) same (now .many h);
+        beyond = now .beyond ∙ held .beyond;
+      }
+
+-- a sound plan's walks stay within the states
+module _ (P : Plan) (s : IsSound P) where
+  edge-state : (u : Node) (e : Edge) → List·Memᴰ e (edges P u) → e .to .state < maxStates
+  unfolding edgeOf
+  edge-state u e h =
+      let r = mem-edges P u e .0 h .at in
+      let a = nextIn-arc (P .arcs) (u .state) (mem-edges P u e .0 h .label) (r .next) (r .admitted) in
+      let arc = sound-plan P s .arc (a .0) (a .1) .toBelow in
+      let to : e .to .state ≡ r .next = ap (λ (f : Edge). f .to .state) (r .is) in
+      omega (arith, arc, a .4, to, sound-plan P s .statesFit)
+
+  walk-state : {u v : Node} {es : List Edge} → Walk P u v es → u .state < maxStates → v .state < maxStates
+  walk-state here h = h
+  walk-state (go {u} {v} {e} k w) h = walk-state w (edge-state u e k)
+
+  pub state-below : (k i : ℕ) → i < length (explored P k) → getD (explored P k) i start .state < maxStates
+  state-below k i h = walk-state (explored-reachable P k (getD (explored P k) i start) (mem-getD (explored P k) i start h) .1) (omega arith)
+
+-- at the end, the nodes
+module _ (P : Plan) (ts : Tasks) (first m : List ℕ) (q k : ℕ) (few : k ≤ maxNodes) (known : Known ts (explored P k) first m q) where
+  pub whole-many : maxNodes < q → Known ts (nodes P) first m q
+  whole-many more = record {
+    held = λ h. absurd (omega arith);
+    many = λ h. explored-many P k few (known .many h);
+    beyond = known .beyond;
+  }
+
+  pub whole-end : q ≤ maxNodes → q ≤ k → Known ts (nodes P) first m q
+  unfolding nodesIn
+  whole-end fits done =
+      let size : length (explored P k) ≡ q = ap length (sym (known .held fits .1)) ∙ length-map (rowsIn m q) (viewOf ts) ∙ rows-length m q in
+      subst (λ (l : List Node). Known ts l first m q) (explored-all P k few (omega (arith, size))) known

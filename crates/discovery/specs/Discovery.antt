@@ -1,0 +1,125 @@
+-- The nodes of a graph as rows of the node store.
+use mathlib.Core.Path.{_≡_}
+use mathlib.Core.Bool.{cond}
+use mathlib.Core.List.{List, [], _∷_, _++_, map, foldl}
+use Prim.Native.Nat.{ℕ, _+_, _<_, _≤_}
+use lib.ListN.{length, getD, take, drop}
+use Rattle.model.specs.Graph as model
+use Rattle.model.specs.Limits.{maxNodes}
+use Rattle.model.specs.Lists.{flatMap, upFrom}
+use Rattle.model.specs.Plan.{Plan, nextIn, IsSound}
+use Rattle.plan.specs.View.{arcsIn}
+use Rattle.policy.specs.View.{Tasks, cellCount, jobsOf, Cells, tasksIn, Ruled}
+use Rattle.policy.specs.declared.Rules.{Rules}
+use Rattle.graph.specs.Outcomes.{patternCount, noteRoom, patternIn}
+use Rattle.graph.specs.View.{nodeOf}
+use Rattle.graph.specs.declared.Node.{Node}
+use Rattle.store.specs.declared.Found.{Found}
+use Rattle.store.specs.declared.Found.the-variants.{Full, At}
+use Rattle.store.specs.Store.{storeBytes, rowAt, rowsIn, Distinct, Indexed}
+
+-- a node as a row: the cells, the pattern, the state
+abbrev pub rowOf : Node → List ℕ
+rowOf u = u .cells ++ (u .taken ∷ u .state ∷ [])
+
+-- and back
+abbrev pub takenAt : ℕ
+takenAt = cellCount
+
+abbrev pub stateAt : ℕ
+stateAt = cellCount + 1
+
+abbrev pub nodeIn : List ℕ → Node
+nodeIn row = record { cells = take cellCount row; taken = getD row takenAt 0; state = getD row stateAt 0 }
+
+-- the node of the model that a row stands for
+abbrev pub viewOf : Tasks → List ℕ → model.Node
+viewOf ts row = nodeOf ts (nodeIn row)
+
+-- the nodes of the first n rows
+unfoldable pub nodesIn : Tasks → List ℕ → ℕ → List model.Node
+nodesIn ts memory n = map (viewOf ts) (rowsIn memory n)
+
+-- n distinct rows of nodes whose cells a node can hold, and their index
+pub record Holding (ts : Tasks) (memory : List ℕ) (n : ℕ) : Type 0 where
+  pub index : Indexed memory n
+  pub distinct : Distinct (rowsIn memory n)
+  pub cells : (j : ℕ) → j < n → Cells ts cellCount (nodeIn (rowAt memory j) .cells)
+
+-- a node joins those known unless it is among them
+abbrev pub addNode : List model.Node → model.Node → List model.Node
+addNode ns v = cond (model.among v ns) ns (ns ++ (v ∷ []))
+
+-- the number of nodes where there are too many, and the number after an answer
+abbrev pub tooMany : ℕ
+tooMany = maxNodes + 1
+
+abbrev pub countIn : Found → ℕ
+countIn Full = tooMany
+countIn (At index count) = count
+
+-- r rows hold the nodes, in order, or these are too many; the bytes behind the store are as they were
+pub record Known (ts : Tasks) (nodes : List model.Node) (before after : List ℕ) (r : ℕ) : Type 0 where
+  pub held : r ≤ maxNodes → Holding ts after r × (nodesIn ts after r ≡ nodes)
+  pub many : maxNodes < r → maxNodes < length nodes
+  pub beyond : drop storeBytes after ≡ drop storeBytes before
+
+-- n distinct rows and their index
+pub record Stored (memory : List ℕ) (n : ℕ) : Type 0 where
+  pub index : Indexed memory n
+  pub distinct : Distinct (rowsIn memory n)
+
+-- the nodes vs, whose cells are these, join those of n rows: then there are r rows
+pub record Adds (cells : List ℕ) (vs : Tasks → List model.Node) (before : List ℕ) (n : ℕ) (after : List ℕ) (r : ℕ) : Type 0 where
+  pub stored : r ≤ maxNodes → Stored after r
+  pub known : (ts : Tasks) → Holding ts before n → Cells ts cellCount cells → Known ts (foldl addNode (nodesIn ts before n) (vs ts)) before after r
+
+-- the nodes with these cells and this state, one for each pattern
+abbrev pub nodeWith : Tasks → List ℕ → ℕ → ℕ → model.Node
+nodeWith ts cells state p = record { jobs = jobsOf ts cells; taken = p; state = state }
+
+abbrev pub nodesWith : List ℕ → ℕ → List ℕ → Tasks → List model.Node
+nodesWith cells state ps ts = map (nodeWith ts cells state) ps
+
+-- the first k patterns in the notes, each a byte
+abbrev pub orderIn : List ℕ → ℕ → List ℕ
+orderIn notes k = map (patternIn notes) (upFrom 0 k)
+
+pub record Readable (notes : List ℕ) (count : ℕ) : Type 0 where
+  pub few : count ≤ patternCount
+  pub room : noteRoom ≤ length notes
+  pub byte : (k : ℕ) → k < count → patternIn notes k < 256
+
+-- the plans that the rules are of
+pub record PlanFor (P : Plan) (r : Rules) : Type 0 where
+  pub tasks : P .tasks ≡ tasksIn r
+  pub policy : P .policy ≡ r .policy
+
+-- rules by which a label can be explored
+pub record Exploring (r : Rules) : Type 0 where
+  pub ruled : Ruled r
+  pub size : length (tasksIn r) ≡ r .count
+
+-- the targets of these edges join the nodes of n rows
+pub record Explored (r : Rules) (edgesOf : Plan → List model.Edge) (before : List ℕ) (n : ℕ) (after : List ℕ) (q : ℕ) : Type 0 where
+  pub known : (P : Plan) → PlanFor P r → Known (tasksIn r) (foldl model.add (nodesIn (tasksIn r) before n) (edgesOf P)) before after q
+
+-- the edges of a label, and of the first k labels, by the table of next states
+abbrev pub edgesBy : List ℕ → model.Node → ℕ → Plan → List model.Edge
+edgesBy next u l P = model.edgesTo P u l (nextIn (arcsIn next) (u .state) l)
+
+abbrev pub edgesBelow : List ℕ → model.Node → ℕ → Plan → List model.Edge
+edgesBelow next u k P = flatMap (λ l. edgesBy next u l P) (upFrom 0 k)
+
+-- a sound plan with these rules and this table
+pub record Planned (P : Plan) (r : Rules) (next : List ℕ) : Type 0 where
+  pub for : PlanFor P r
+  pub arcs : P .arcs ≡ arcsIn next
+  pub sound : IsSound P
+
+-- there is one, and the store holds the start node
+pub record Begun (r : Rules) (next memory : List ℕ) (n : ℕ) : Type 0 where
+  pub plan : Plan
+  pub planned : Planned plan r next
+  pub held : Holding (tasksIn r) memory n
+  pub nodes : nodesIn (tasksIn r) memory n ≡ model.start ∷ []

@@ -1,0 +1,210 @@
+// The nodes of a plan's graph, discovered in order and kept in the node store.
+use graph::Node;
+use graph::Release;
+use policy::Rules;
+use store::Found;
+ghost use mathlib.Core.Path.{_≡_};
+ghost use lib.ListN.{length};
+ghost use mathlib.Core.List.{[], _∷_};
+ghost use Prim.Native.Nat.{_^_, _<_, _≤_};
+ghost use mathlib.Core.Option.{some};
+ghost use Rattle.model.specs.Graph.{edgesTo, nodes};
+ghost use Rattle.model.specs.Limits.{maxStates};
+ghost use Rattle.model.specs.Plan.{Plan};
+ghost use Rattle.policy.specs.View.{cellCount, Cells, tasksIn};
+ghost use Rattle.graph.specs.Outcomes.{patternIn, noteRoom};
+ghost use Rattle.graph.specs.View.{nodeOf};
+ghost use Rattle.store.specs.Store.{rowBytes};
+ghost use Rattle.discovery.specs.Discovery.{rowOf, nodeIn, Stored, Adds, nodesWith, orderIn, Readable, Holding, Exploring, Explored, edgesBy, edgesBelow, Known, Planned, Begun};
+
+// Where the pattern and the state stand in a row, behind the cells.
+const TAKEN: usize = policy::CELLS;
+
+const STATE: usize = policy::CELLS + 1;
+
+// A node as a row.
+pub fn row_of(node: Node) -> [u8; store::ROW_BYTES]
+    requires { ⌜ length (node .cells) ≡ cellCount ⌝ }
+    ensures { λ r. ⌜ r ≡ rowOf node ⌝ }
+{
+    let cells = node.cells;
+    let mut row = [0u8; store::ROW_BYTES];
+    words::copy(&cells, 0, &mut row, 0, policy::CELLS);
+    row[TAKEN] = node.taken;
+    row[STATE] = node.state;
+    row
+}
+
+// The node of a row.
+pub fn node_of(row: [u8; store::ROW_BYTES]) -> Node
+    requires { ⌜ length row ≡ rowBytes ⌝ }
+    ensures { λ r. ⌜ r ≡ nodeIn row ⌝ }
+{
+    let mut cells = [0u8; policy::CELLS];
+    words::copy(&row, 0, &mut cells, 0, policy::CELLS);
+    Node {
+        cells,
+        taken: row[TAKEN],
+        state: row[STATE],
+    }
+}
+
+// The number of nodes where there are too many.
+pub const TOO_MANY: usize = store::MAX_ROWS + 1;
+
+// A node joins the n in the store unless it is among them. The number of nodes then.
+pub fn add_node(m: &mut [u8], n: usize, node: Node) -> usize
+    requires { ⌜ length (node .cells) ≡ cellCount ⌝ }
+    requires { ⌜ Stored (now m) n ⌝ }
+    ensures { λ r. ⌜ Adds (node .cells) (λ ts. nodeOf ts node ∷ []) (now (m .entry)) n (now (m .exit)) r ⌝ }
+{
+    let row = row_of(node);
+    match store::find_or_append(m, n, &row) {
+        Found::Full => TOO_MANY,
+        Found::At { index: _, count } => count,
+    }
+}
+
+// Where the order of the patterns stands in the notes, two bytes for each.
+const ORDER: usize = graph::NOTE_ROOM - 2 * Node::PATTERNS;
+
+// The k-th pattern in the order of the notes.
+fn pattern_at(notes: &[u8], count: usize, k: usize) -> u8
+    requires { ⌜ Readable (now notes) count × (k < count) ⌝ }
+    ensures { λ r. ⌜ r ≡ patternIn (now (notes .entry)) k ⌝ }
+{
+    words::read_u16(notes, ORDER + k * 2) as u8
+}
+
+// For each pattern in the notes a node with these cells and this state joins those in the store. The number of nodes then.
+pub fn add_outcomes(
+    m: &mut [u8],
+    n: usize,
+    notes: &[u8],
+    count: usize,
+    cells: [u8; policy::CELLS],
+    state: u8,
+) -> usize
+    requires { ⌜ Stored (now m) n × Readable (now notes) count × (length cells ≡ cellCount) ⌝ }
+    ensures { λ r. ⌜ Adds cells (nodesWith cells state (orderIn (now (notes .entry)) count)) (now (m .entry)) n (now (m .exit)) r ⌝ }
+{
+    let mut known = n;
+    let mut k = 0;
+    while k < count {
+        let taken = pattern_at(notes, count, k);
+        known = add_node(
+            m,
+            known,
+            Node {
+                cells,
+                taken,
+                state,
+            },
+        );
+        if store::MAX_ROWS < known {
+            return known;
+        }
+        k += 1;
+    }
+    known
+}
+
+// The nodes that a label leads to from a node, in this state, join those in the store. The number of nodes then.
+fn explore_label(
+    rules: Rules,
+    node: Node,
+    label: u8,
+    state: u8,
+    notes: &mut [u8],
+    m: &mut [u8],
+    n: usize,
+) -> usize
+    requires { ⌜ Exploring rules × Cells (tasksIn rules) cellCount (node .cells) ⌝ }
+    requires { ⌜ Holding (tasksIn rules) (now m) n × (noteRoom ≤ length (now notes)) ⌝ }
+    ensures { λ r. ⌜ Explored rules (λ P. edgesTo P (nodeOf (tasksIn rules) node) label (some state)) (now (m .entry)) n (now (m .exit)) r ⌝ }
+{
+    let cells = node.cells;
+    let done = policy::slot(rules, cells, label);
+    graph::clear_notes(notes);
+    let tasks = rules.tasks;
+    let release = Release {
+        tasks,
+        count: rules.count,
+        label,
+    };
+    let count = graph::note_choices(release, node.taken, notes, 0);
+    let after = done.cells;
+    add_outcomes(m, n, notes, count, after, state)
+}
+
+// The nodes that a label leads to from a node, if it is admitted, join those in the store. The number of nodes then.
+fn follow_label(
+    next: &[u8; plan::PAIRS],
+    rules: Rules,
+    node: Node,
+    label: u8,
+    notes: &mut [u8],
+    m: &mut [u8],
+    n: usize,
+) -> usize
+    requires { ⌜ Exploring rules × Cells (tasksIn rules) cellCount (node .cells) × (node .state < maxStates) ⌝ }
+    requires { ⌜ Holding (tasksIn rules) (now m) n × (noteRoom ≤ length (now notes)) ⌝ }
+    ensures { λ r. ⌜ Explored rules (edgesBy (now (next .entry)) (nodeOf (tasksIn rules) node) label) (now (m .entry)) n (now (m .exit)) r ⌝ }
+{
+    let to = plan::next_state(next, node.state, label);
+    if to == 0 {
+        return n;
+    }
+    explore_label(rules, node, label, to - 1, notes, m, n)
+}
+
+// The nodes that edges lead to from a node, labels upward, join those in the store. The number of nodes then.
+fn explore_node(
+    next: &[u8; plan::PAIRS],
+    rules: Rules,
+    node: Node,
+    notes: &mut [u8],
+    m: &mut [u8],
+    n: usize,
+) -> usize
+    requires { ⌜ Exploring rules × Cells (tasksIn rules) cellCount (node .cells) × (node .state < maxStates) ⌝ }
+    requires { ⌜ Holding (tasksIn rules) (now m) n × (noteRoom ≤ length (now notes)) ⌝ }
+    ensures { λ r. ⌜ Explored rules (edgesBelow (now (next .entry)) (nodeOf (tasksIn rules) node) (2 ^ rules .count)) (now (m .entry)) n (now (m .exit)) r ⌝ }
+{
+    let labels = 1u8 << rules.count;
+    let mut known = n;
+    let mut label = 0;
+    while label < labels {
+        known = follow_label(next, rules, node, label, notes, m, known);
+        if store::MAX_ROWS < known {
+            return known;
+        }
+        label += 1;
+    }
+    known
+}
+
+// Explores the nodes in the store by number, from the start node on. The number of nodes then.
+fn explore_all(
+    next: &[u8; plan::PAIRS],
+    rules: Rules,
+    notes: &mut [u8],
+    m: &mut [u8],
+    n: usize,
+) -> usize
+    requires { ⌜ Exploring rules × Begun rules (now next) (now m) n × (noteRoom ≤ length (now notes)) ⌝ }
+    ensures { λ r. ⌜ ((P : Plan) → Planned P rules (now (next .entry)) → Known (tasksIn rules) (nodes P) (now (m .entry)) (now (m .exit)) r) ⌝ }
+{
+    let mut known = n;
+    let mut k = 0;
+    while k < known {
+        let row = store::row(m, k);
+        let node = node_of(row);
+        known = explore_node(next, rules, node, notes, m, known);
+        if store::MAX_ROWS < known {
+            return known;
+        }
+        k += 1;
+    }
+    known
+}
