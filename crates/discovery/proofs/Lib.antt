@@ -3,3 +3,4 @@ pub mod Nodes
 pub mod Growing
 pub mod Labels
 pub mod Whole
+pub mod Answer

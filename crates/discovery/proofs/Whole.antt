@@ -17,12 +17,13 @@ use Rattle.theory.proofs.Nodes.{explored-prefix, explored-reachable}
 use Rattle.theory.proofs.Edges.{mem-edges}
 use Rattle.theory.proofs.Sound.{sound-plan, nextIn-arc}
 use Rattle.plan.specs.View.{arcsIn}
-use Rattle.policy.specs.View.{Tasks, tasksIn}
+use Rattle.policy.specs.View.{Tasks, cellCount, Cells, tasksIn, Ruled, PlanFor}
 use Rattle.policy.specs.declared.Rules.{Rules}
-use Rattle.graph.specs.View.{nodeOf}
+use Rattle.graph.specs.declared.Node as graph
+use Rattle.graph.specs.View.{nodeOf, Planned}
 use Rattle.store.specs.Store.{rowAt, rowsIn}
 use Rattle.store.proofs.Rows.{rows-length, rows-at}
-use Rattle.discovery.specs.Discovery.{nodeIn, viewOf, nodesIn, Known, PlanFor, Explored, edgesBelow}
+use Rattle.discovery.specs.Discovery.{nodeIn, viewOf, nodesIn, Known, Explored, edgesBelow}
 
 -- the edges of a node by the table of next states
 pub edges-below : (P : Plan) (next : List ℕ) (count : ℕ) (u : Node) → P .arcs ≡ arcsIn next → length (P .tasks) ≡ count →
@@ -122,6 +123,28 @@ module _ (P : Plan) (s : IsSound P) where
 
   pub state-below : (k i : ℕ) → i < length (explored P k) → getD (explored P k) i start .state < maxStates
   state-below k i h = walk-state (explored-reachable P k (getD (explored P k) i start) (mem-getD (explored P k) i start h) .1) (omega arith)
+
+-- one turn, for every plan with these rules and this table
+module _ (r : Rules) (ruled : Ruled r) (next first m : List ℕ) (known k : ℕ) (few : known ≤ maxNodes) (below : k < known)
+    (held : (P : Plan) → Planned P r next → Known (tasksIn r) (explored P k) first m known) (u : graph.Node) (named : u ≡ nodeIn (rowAt m k)) where
+  tasks-size : (P : Plan) → Planned P r next → length (P .tasks) ≡ r .count
+  tasks-size P p = ap length (p .for .tasks) ∙ ruled .size
+
+  pub row-cells : (P : Plan) → Planned P r next → Cells (tasksIn r) cellCount (u .cells)
+  row-cells P p = subst (λ (v : graph.Node). Cells (tasksIn r) cellCount (v .cells)) (sym named) (held P p .held few .0 .cells k below)
+
+  pub row-state : (P : Plan) → Planned P r next → u .state < maxStates
+  row-state P p =
+      let size = known-length P r (p .for) next (p .arcs) (tasks-size P p) first m known k few below (held P p) in
+      let view = row-node-at P r (p .for) next (p .arcs) (tasks-size P p) first m known k few below (held P p) in
+      let state : u .state ≡ getD (explored P k) k start .state = ap (λ (v : graph.Node). v .state) named ∙ ap (λ (v : Node). v .state) view in
+      omega (arith, state-below P (p .sound) k k (omega (arith, size)), state)
+
+  pub next-turn : (m′ : List ℕ) (q : ℕ) → Explored r (edgesBelow next (nodeOf (tasksIn r) u) (2 ^ r .count)) m known m′ q →
+      (P : Plan) → Planned P r next → Known (tasksIn r) (explored P (suc k)) first m′ q
+  next-turn m′ q x P p =
+      turn P r (p .for) next (p .arcs) (tasks-size P p) first m known k few below (held P p) m′ q
+      (subst (λ (v : graph.Node). Explored r (edgesBelow next (nodeOf (tasksIn r) v) (2 ^ r .count)) m known m′ q) named x)
 
 -- at the end, the nodes
 module _ (P : Plan) (ts : Tasks) (first m : List ℕ) (q k : ℕ) (few : k ≤ maxNodes) (known : Known ts (explored P k) first m q) where

@@ -1,21 +1,23 @@
 -- The nodes of a graph as rows of the node store.
 use mathlib.Core.Path.{_≡_}
 use mathlib.Core.Bool.{cond}
+use mathlib.Core.Option.{Option, none, some}
 use mathlib.Core.List.{List, [], _∷_, _++_, map, foldl}
 use Prim.Native.Nat.{ℕ, _+_, _<_, _≤_}
 use lib.ListN.{length, getD, take, drop}
 use Rattle.model.specs.Graph as model
 use Rattle.model.specs.Limits.{maxNodes}
 use Rattle.model.specs.Lists.{flatMap, upFrom}
-use Rattle.model.specs.Plan.{Plan, nextIn, IsSound}
+use Rattle.model.specs.Plan.{Plan, nextIn}
 use Rattle.plan.specs.View.{arcsIn}
-use Rattle.policy.specs.View.{Tasks, cellCount, jobsOf, Cells, tasksIn, Ruled}
+use Rattle.policy.specs.View.{Tasks, cellCount, jobsOf, Cells, tasksIn, PlanFor}
 use Rattle.policy.specs.declared.Rules.{Rules}
-use Rattle.graph.specs.Outcomes.{patternCount, noteRoom, patternIn}
-use Rattle.graph.specs.View.{nodeOf}
+use Rattle.graph.specs.View.{nodeOf, Planned}
 use Rattle.graph.specs.declared.Node.{Node}
 use Rattle.store.specs.declared.Found.{Found}
 use Rattle.store.specs.declared.Found.the-variants.{Full, At}
+use Rattle.discovery.specs.declared.Discovered.{Discovered}
+use Rattle.discovery.specs.declared.Discovered.the-variants.{TooMany, Nodes}
 use Rattle.store.specs.Store.{storeBytes, rowAt, rowsIn, Distinct, Indexed}
 
 -- a node as a row: the cells, the pattern, the state
@@ -81,25 +83,6 @@ nodeWith ts cells state p = record { jobs = jobsOf ts cells; taken = p; state = 
 abbrev pub nodesWith : List ℕ → ℕ → List ℕ → Tasks → List model.Node
 nodesWith cells state ps ts = map (nodeWith ts cells state) ps
 
--- the first k patterns in the notes, each a byte
-abbrev pub orderIn : List ℕ → ℕ → List ℕ
-orderIn notes k = map (patternIn notes) (upFrom 0 k)
-
-pub record Readable (notes : List ℕ) (count : ℕ) : Type 0 where
-  pub few : count ≤ patternCount
-  pub room : noteRoom ≤ length notes
-  pub byte : (k : ℕ) → k < count → patternIn notes k < 256
-
--- the plans that the rules are of
-pub record PlanFor (P : Plan) (r : Rules) : Type 0 where
-  pub tasks : P .tasks ≡ tasksIn r
-  pub policy : P .policy ≡ r .policy
-
--- rules by which a label can be explored
-pub record Exploring (r : Rules) : Type 0 where
-  pub ruled : Ruled r
-  pub size : length (tasksIn r) ≡ r .count
-
 -- the targets of these edges join the nodes of n rows
 pub record Explored (r : Rules) (edgesOf : Plan → List model.Edge) (before : List ℕ) (n : ℕ) (after : List ℕ) (q : ℕ) : Type 0 where
   pub known : (P : Plan) → PlanFor P r → Known (tasksIn r) (foldl model.add (nodesIn (tasksIn r) before n) (edgesOf P)) before after q
@@ -111,15 +94,25 @@ edgesBy next u l P = model.edgesTo P u l (nextIn (arcsIn next) (u .state) l)
 abbrev pub edgesBelow : List ℕ → model.Node → ℕ → Plan → List model.Edge
 edgesBelow next u k P = flatMap (λ l. edgesBy next u l P) (upFrom 0 k)
 
--- a sound plan with these rules and this table
-pub record Planned (P : Plan) (r : Rules) (next : List ℕ) : Type 0 where
-  pub for : PlanFor P r
-  pub arcs : P .arcs ≡ arcsIn next
-  pub sound : IsSound P
-
--- there is one, and the store holds the start node
-pub record Begun (r : Rules) (next memory : List ℕ) (n : ℕ) : Type 0 where
-  pub plan : Plan
-  pub planned : Planned plan r next
+-- the store holds the start node
+pub record Begun (r : Rules) (memory : List ℕ) (n : ℕ) : Type 0 where
   pub held : Holding (tasksIn r) memory n
   pub nodes : nodesIn (tasksIn r) memory n ≡ model.start ∷ []
+
+-- ---- the answer
+
+-- the number of nodes, if there are not too many
+abbrev pub sizeOf : Discovered → Option ℕ
+sizeOf TooMany = none
+sizeOf (Nodes n) = some n
+
+-- n rows hold the plan's nodes, in order
+pub record Holds (P : Plan) (ts : Tasks) (memory : List ℕ) (n : ℕ) : Type 0 where
+  pub rows : Holding ts memory n
+  pub nodes : nodesIn ts memory n ≡ model.nodes P
+
+-- for every sound plan with these rules and this table: its nodes, or that they are too many; the bytes behind the store are as they were
+pub record Discovers (r : Rules) (next before after : List ℕ) (d : Discovered) : Type 0 where
+  pub answer : (P : Plan) → Planned P r next → sizeOf d ≡ cond (model.tooLarge P) none (some (length (model.nodes P)))
+  pub held : (n : ℕ) → d ≡ Nodes n → (P : Plan) → Planned P r next → Holds P (tasksIn r) after n
+  pub beyond : drop storeBytes after ≡ drop storeBytes before

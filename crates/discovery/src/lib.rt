@@ -1,21 +1,21 @@
 // The nodes of a plan's graph, discovered in order and kept in the node store.
 use graph::Node;
-use graph::Release;
 use policy::Rules;
 use store::Found;
 ghost use mathlib.Core.Path.{_≡_};
-ghost use lib.ListN.{length};
+ghost use lib.ListN.{length, drop};
 ghost use mathlib.Core.List.{[], _∷_};
 ghost use Prim.Native.Nat.{_^_, _<_, _≤_};
 ghost use mathlib.Core.Option.{some};
 ghost use Rattle.model.specs.Graph.{edgesTo, nodes};
 ghost use Rattle.model.specs.Limits.{maxStates};
 ghost use Rattle.model.specs.Plan.{Plan};
-ghost use Rattle.policy.specs.View.{cellCount, Cells, tasksIn};
-ghost use Rattle.graph.specs.Outcomes.{patternIn, noteRoom};
-ghost use Rattle.graph.specs.View.{nodeOf};
-ghost use Rattle.store.specs.Store.{rowBytes};
-ghost use Rattle.discovery.specs.Discovery.{rowOf, nodeIn, Stored, Adds, nodesWith, orderIn, Readable, Holding, Exploring, Explored, edgesBy, edgesBelow, Known, Planned, Begun};
+ghost use Rattle.policy.specs.View.{cellCount, Cells, tasksIn, Ruled};
+ghost use Rattle.graph.specs.Outcomes.{noteRoom};
+ghost use Rattle.graph.specs.Label.{orderIn, Readable};
+ghost use Rattle.graph.specs.View.{nodeOf, Planned, Planning};
+ghost use Rattle.store.specs.Store.{rowBytes, storeBytes};
+ghost use Rattle.discovery.specs.Discovery.{rowOf, nodeIn, Stored, Adds, nodesWith, Holding, Explored, edgesBy, edgesBelow, Known, Begun, Discovers};
 
 // Where the pattern and the state stand in a row, behind the cells.
 const TAKEN: usize = policy::CELLS;
@@ -50,10 +50,10 @@ pub fn node_of(row: [u8; store::ROW_BYTES]) -> Node
 }
 
 // The number of nodes where there are too many.
-pub const TOO_MANY: usize = store::MAX_ROWS + 1;
+const TOO_MANY: usize = store::MAX_ROWS + 1;
 
 // A node joins the n in the store unless it is among them. The number of nodes then.
-pub fn add_node(m: &mut [u8], n: usize, node: Node) -> usize
+fn add_node(m: &mut [u8], n: usize, node: Node) -> usize
     requires { ⌜ length (node .cells) ≡ cellCount ⌝ }
     requires { ⌜ Stored (now m) n ⌝ }
     ensures { λ r. ⌜ Adds (node .cells) (λ ts. nodeOf ts node ∷ []) (now (m .entry)) n (now (m .exit)) r ⌝ }
@@ -65,19 +65,8 @@ pub fn add_node(m: &mut [u8], n: usize, node: Node) -> usize
     }
 }
 
-// Where the order of the patterns stands in the notes, two bytes for each.
-const ORDER: usize = graph::NOTE_ROOM - 2 * Node::PATTERNS;
-
-// The k-th pattern in the order of the notes.
-fn pattern_at(notes: &[u8], count: usize, k: usize) -> u8
-    requires { ⌜ Readable (now notes) count × (k < count) ⌝ }
-    ensures { λ r. ⌜ r ≡ patternIn (now (notes .entry)) k ⌝ }
-{
-    words::read_u16(notes, ORDER + k * 2) as u8
-}
-
 // For each pattern in the notes a node with these cells and this state joins those in the store. The number of nodes then.
-pub fn add_outcomes(
+fn add_outcomes(
     m: &mut [u8],
     n: usize,
     notes: &[u8],
@@ -91,7 +80,7 @@ pub fn add_outcomes(
     let mut known = n;
     let mut k = 0;
     while k < count {
-        let taken = pattern_at(notes, count, k);
+        let taken = graph::noted_pattern(notes, count, k);
         known = add_node(
             m,
             known,
@@ -119,22 +108,16 @@ fn explore_label(
     m: &mut [u8],
     n: usize,
 ) -> usize
-    requires { ⌜ Exploring rules × Cells (tasksIn rules) cellCount (node .cells) ⌝ }
+    requires { ⌜ Ruled rules × Cells (tasksIn rules) cellCount (node .cells) ⌝ }
     requires { ⌜ Holding (tasksIn rules) (now m) n × (noteRoom ≤ length (now notes)) ⌝ }
     ensures { λ r. ⌜ Explored rules (λ P. edgesTo P (nodeOf (tasksIn rules) node) label (some state)) (now (m .entry)) n (now (m .exit)) r ⌝ }
+    ensures { λ _. ⌜ drop noteRoom (now (notes .exit)) ≡ drop noteRoom (now (notes .entry)) ⌝ }
 {
-    let cells = node.cells;
-    let done = policy::slot(rules, cells, label);
-    graph::clear_notes(notes);
-    let tasks = rules.tasks;
-    let release = Release {
-        tasks,
-        count: rules.count,
-        label,
-    };
-    let count = graph::note_choices(release, node.taken, notes, 0);
-    let after = done.cells;
-    add_outcomes(m, n, notes, count, after, state)
+    let noted = graph::reach(rules, node, label, notes);
+    let count = noted.count;
+    let done = noted.done;
+    let cells = done.cells;
+    add_outcomes(m, n, notes, count, cells, state)
 }
 
 // The nodes that a label leads to from a node, if it is admitted, join those in the store. The number of nodes then.
@@ -147,9 +130,10 @@ fn follow_label(
     m: &mut [u8],
     n: usize,
 ) -> usize
-    requires { ⌜ Exploring rules × Cells (tasksIn rules) cellCount (node .cells) × (node .state < maxStates) ⌝ }
+    requires { ⌜ Ruled rules × Cells (tasksIn rules) cellCount (node .cells) × (node .state < maxStates) ⌝ }
     requires { ⌜ Holding (tasksIn rules) (now m) n × (noteRoom ≤ length (now notes)) ⌝ }
     ensures { λ r. ⌜ Explored rules (edgesBy (now (next .entry)) (nodeOf (tasksIn rules) node) label) (now (m .entry)) n (now (m .exit)) r ⌝ }
+    ensures { λ _. ⌜ drop noteRoom (now (notes .exit)) ≡ drop noteRoom (now (notes .entry)) ⌝ }
 {
     let to = plan::next_state(next, node.state, label);
     if to == 0 {
@@ -167,9 +151,10 @@ fn explore_node(
     m: &mut [u8],
     n: usize,
 ) -> usize
-    requires { ⌜ Exploring rules × Cells (tasksIn rules) cellCount (node .cells) × (node .state < maxStates) ⌝ }
+    requires { ⌜ Ruled rules × Cells (tasksIn rules) cellCount (node .cells) × (node .state < maxStates) ⌝ }
     requires { ⌜ Holding (tasksIn rules) (now m) n × (noteRoom ≤ length (now notes)) ⌝ }
     ensures { λ r. ⌜ Explored rules (edgesBelow (now (next .entry)) (nodeOf (tasksIn rules) node) (2 ^ rules .count)) (now (m .entry)) n (now (m .exit)) r ⌝ }
+    ensures { λ _. ⌜ drop noteRoom (now (notes .exit)) ≡ drop noteRoom (now (notes .entry)) ⌝ }
 {
     let labels = 1u8 << rules.count;
     let mut known = n;
@@ -192,8 +177,9 @@ fn explore_all(
     m: &mut [u8],
     n: usize,
 ) -> usize
-    requires { ⌜ Exploring rules × Begun rules (now next) (now m) n × (noteRoom ≤ length (now notes)) ⌝ }
+    requires { ⌜ Ruled rules × Planning rules (now next) × Begun rules (now m) n × (noteRoom ≤ length (now notes)) ⌝ }
     ensures { λ r. ⌜ ((P : Plan) → Planned P rules (now (next .entry)) → Known (tasksIn rules) (nodes P) (now (m .entry)) (now (m .exit)) r) ⌝ }
+    ensures { λ _. ⌜ drop noteRoom (now (notes .exit)) ≡ drop noteRoom (now (notes .entry)) ⌝ }
 {
     let mut known = n;
     let mut k = 0;
@@ -207,4 +193,32 @@ fn explore_all(
         k += 1;
     }
     known
+}
+
+// So many nodes, or too many.
+pub enum Discovered {
+    TooMany,
+    Nodes(usize),
+}
+
+// Discovers the nodes of a sound plan with these rules and next states, into the store.
+pub fn discover(
+    next: &[u8; plan::PAIRS],
+    rules: Rules,
+    notes: &mut [u8],
+    m: &mut [u8],
+) -> Discovered
+    requires { ⌜ Ruled rules × Planning rules (now next) ⌝ }
+    requires { ⌜ (storeBytes ≤ length (now m)) × (noteRoom ≤ length (now notes)) ⌝ }
+    ensures { λ r. ⌜ Discovers rules (now (next .entry)) (now (m .entry)) (now (m .exit)) r ⌝ }
+    ensures { λ _. ⌜ drop noteRoom (now (notes .exit)) ≡ drop noteRoom (now (notes .entry)) ⌝ }
+{
+    store::clear_index(m);
+    let start = Node::start();
+    let first = add_node(m, 0, start);
+    let n = explore_all(next, rules, notes, m, first);
+    if store::MAX_ROWS < n {
+        return Discovered::TooMany;
+    }
+    Discovered::Nodes(n)
 }

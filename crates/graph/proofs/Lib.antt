@@ -5,3 +5,4 @@ pub mod Choices
 pub mod Outcomes
 pub mod Adding
 pub mod Search
+pub mod Labels

@@ -1,3 +1,4 @@
 pub mod View
 pub mod Outcomes
 pub mod Choice
+pub mod Label

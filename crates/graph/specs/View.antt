@@ -1,7 +1,12 @@
 -- What a node stands for.
 use mathlib.Core.Path.{_≡_}
+use mathlib.Core.List.{List}
+use Prim.Native.Nat.{ℕ}
 use Rattle.model.specs.Graph as model
-use Rattle.policy.specs.View.{Tasks, cellCount, jobsOf, Cells}
+use Rattle.model.specs.Plan.{Plan, IsSound}
+use Rattle.plan.specs.View.{arcsIn}
+use Rattle.policy.specs.View.{Tasks, cellCount, jobsOf, Cells, PlanFor}
+use Rattle.policy.specs.declared.Rules.{Rules}
 use Rattle.graph.specs.declared.Node.{Node}
 
 abbrev pub nodeOf : Tasks → Node → model.Node
@@ -11,3 +16,14 @@ nodeOf ts u = record { jobs = jobsOf ts (u .cells); taken = u .taken; state = u 
 pub record Starts (u : Node) : Type 0 where
   pub view : (ts : Tasks) → nodeOf ts u ≡ model.start
   pub cells : (ts : Tasks) → Cells ts cellCount (u .cells)
+
+-- a sound plan with these rules and this table of next states
+pub record Planned (P : Plan) (r : Rules) (next : List ℕ) : Type 0 where
+  pub for : PlanFor P r
+  pub arcs : P .arcs ≡ arcsIn next
+  pub sound : IsSound P
+
+-- there is one
+pub record Planning (r : Rules) (next : List ℕ) : Type 0 where
+  pub plan : Plan
+  pub planned : Planned plan r next

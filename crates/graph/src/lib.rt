@@ -1,5 +1,7 @@
 // The graph of a plan: its nodes, and where a label leads from a node.
 use plan::Task;
+use policy::Done;
+use policy::Rules;
 ghost use mathlib.Core.Path.{_≡_};
 ghost use mathlib.Core.Bool.{cond};
 ghost use mathlib.Core.List.{[], _∷_, _++_};
@@ -11,8 +13,11 @@ ghost use Rattle.model.specs.Limits.{maxTasks, maxWindow, maxValue};
 ghost use Rattle.model.specs.Masks.{maskCount};
 ghost use Rattle.model.specs.Slot.{noTask};
 ghost use Rattle.plan.specs.View.{taskOf};
-ghost use Rattle.graph.specs.Outcomes.{outcomes, scoreBytes, bestBytes, noteRoom, patternCount, none, notesIn, Room, Noting, Cleared, tasksIn, Released, InBounds, chosenWith, outcomeIn, nextOutcomes, maskOutcomes};
+ghost use Rattle.policy.specs.View as policy-view;
+ghost use Rattle.policy.specs.View.{cellCount, Cells, Ruled};
+ghost use Rattle.graph.specs.Outcomes.{outcomes, scoreBytes, bestBytes, noteRoom, patternCount, none, patternIn, notesIn, Room, Noting, Cleared, tasksIn, Released, InBounds, chosenWith, outcomeIn, nextOutcomes, maskOutcomes};
 ghost use Rattle.graph.specs.Choice.{choiceOf, ledOf, fitsTask, allZero, nextChoice};
+ghost use Rattle.graph.specs.Label.{Readable, Reaches};
 ghost use Rattle.graph.specs.View.{Starts};
 
 // A node: the cells of the policy's jobs, the pattern of taken slots, and the automaton's state.
@@ -235,12 +240,12 @@ pub fn best_masks(memory: &[u8], pattern: usize) -> [u8; MAX_TASKS]
     masks
 }
 
-// The pattern noted at a place of the order.
-pub fn noted_pattern(memory: &[u8], k: usize) -> usize
-    requires { ⌜ (noteRoom ≤ length (now memory)) × (k < patternCount) ⌝ }
-    ensures { λ r. ⌜ ((count : ℕ) → k < count → r ≡ getD (notesIn (now (memory .entry)) count .order) k 0) ⌝ }
+// The k-th pattern in the order of the notes.
+pub fn noted_pattern(memory: &[u8], count: usize, k: usize) -> u8
+    requires { ⌜ Readable (now memory) count × (k < count) ⌝ }
+    ensures { λ r. ⌜ (r ≡ patternIn (now (memory .entry)) k) × (r < patternCount) ⌝ }
 {
-    words::read_u16(memory, ORDER_AT + k * PATTERN_BYTES) as usize
+    words::read_u16(memory, ORDER_AT + k * PATTERN_BYTES) as u8
 }
 
 // Notes the outcomes of a label's choices from a pattern of taken slots; so many patterns are noted.
@@ -256,6 +261,30 @@ pub fn note_choices(release: Release, taken: u8, memory: &mut [u8], count: usize
         masks,
     };
     note_task(release, chosen, memory, count)
+}
+
+// What a label does at a node: the policy's slot, and so many patterns are noted.
+pub struct Noted {
+    pub done: Done,
+    pub count: usize,
+}
+
+// Notes where the label's choices lead from a node, beside the policy's slot.
+pub fn reach(rules: Rules, node: Node, label: u8, notes: &mut [u8]) -> Noted
+    requires { ⌜ Ruled rules × Cells (policy-view.tasksIn rules) cellCount (node .cells) × (noteRoom ≤ length (now notes)) ⌝ }
+    ensures { λ r. ⌜ Reaches rules node label (now (notes .entry)) (now (notes .exit)) r ⌝ }
+{
+    let cells = node.cells;
+    let done = policy::slot(rules, cells, label);
+    clear_notes(notes);
+    let tasks = rules.tasks;
+    let release = Release {
+        tasks,
+        count: rules.count,
+        label,
+    };
+    let count = note_choices(release, node.taken, notes, 0);
+    Noted { done, count }
 }
 
 // Where a choice leads, if there is one: the pattern, and the gain.

@@ -56,6 +56,10 @@ arcsBelow next (suc n) = arcsBelow next n ++ arcAt n (getD next n 0)
 unfoldable pub arcsIn : List ℕ → List model.Arc
 arcsIn next = arcsBelow next pairCount
 
+-- every next state of the table is a state
+pub record StatesFit (next : List ℕ) : Type 0 where
+  pub to : (s l t : ℕ) → model.nextIn (arcsIn next) s l ≡ some t → t < maxStates
+
 -- the next state that an entry of the table stands for
 abbrev pub nextOf : ℕ → Option ℕ
 nextOf zero = none

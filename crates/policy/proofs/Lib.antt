@@ -7,3 +7,4 @@ pub mod Rule
 pub mod Rising
 pub mod Canonical
 pub mod Gain
+pub mod Plans

@@ -127,7 +127,13 @@ tasksIn r = tasksOf (r .tasks) (r .count)
 
 pub record Ruled (r : Rules) : Type 0 where
   pub tasks : TasksInRange (tasksIn r)
+  pub size : length (tasksIn r) ≡ r .count
   pub left : r .left ≡ leftTable (tasksIn r)
+
+-- the plans that the rules are of
+pub record PlanFor (P : model.Plan) (r : Rules) : Type 0 where
+  pub tasks : P .tasks ≡ tasksIn r
+  pub policy : P .policy ≡ r .policy
 
 -- the rules of a plan
 pub record RulesOf (p : Plan) (r : Rules) : Type 0 where

@@ -11,7 +11,8 @@ ghost use lib.ListN.{getD};
 ghost use Rattle.model.specs.Limits.{maxTasks, maxWindow};
 ghost use Rattle.model.specs.Lists.{keep};
 ghost use Rattle.model.specs.Slot.{newJobs, canFinish, worked, tick, stays};
-ghost use Rattle.plan.specs.View.{taskOf, tasksOf};
+ghost use Rattle.model.specs.Plan.{IsSound};
+ghost use Rattle.plan.specs.View.{taskOf, tasksOf, planOf, Sized};
 ghost use Rattle.policy.specs.View.{Tasks, cellCount, slotCells, taskAt, leftIn, leftTable, jobIn, jobsOf, TasksInRange, Cells, Leaves, Filled, Low, hasWork, newWork, keyNumber, keyIn, codeIn, Chosen, tasksIn, Ruled, RulesOf, Slotted};
 
 const MAX_TASKS: usize = 4;
@@ -99,7 +100,7 @@ fn left_table(tasks: [Task; MAX_TASKS], count: usize) -> [u8; SLOT_CELLS]
 
 // The rules of a plan.
 pub fn rules_of(plan: Plan) -> Rules
-    requires { ⌜ TasksInRange (tasksOf (plan .tasks) (plan .count)) ⌝ }
+    requires { ⌜ Sized plan × IsSound (planOf plan) ⌝ }
     ensures { λ r. ⌜ RulesOf plan r ⌝ }
 {
     let tasks = plan.tasks;

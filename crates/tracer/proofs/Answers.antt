@@ -3,25 +3,19 @@
 use mathlib.Core.Path.{_≡_, sym, ap, _∙_, subst}
 use mathlib.Core.Bool.{Bool, true, false, cond}
 use mathlib.Core.List.{List, []}
-use mathlib.Core.Option.{some}
 use Prim.Native.Nat.{ℕ, _*_, _≤_, _<_}
-use native.Mathlib.Nat.{lt-of-lt-of-le}
 use borrow.Author.Tests.{lt-ltb, le-ltb}
 use lib.ListN.{length}
 use Rattle.model.specs.Bytes.{overwrite}
-use Rattle.model.specs.Limits.{maxLabels, maxStates, traceRoom}
+use Rattle.model.specs.Limits.{maxLabels, traceRoom}
 use Rattle.model.specs.Refusals.{shortMemory, tooManyLabels, notAdmitted}
-use Rattle.model.specs.Plan.{Plan, PlanAnswer, readPlan, nextIn, IsSound}
+use Rattle.model.specs.Plan.{Plan, PlanAnswer, readPlan}
 use Rattle.model.specs.Schedule.{admits}
 use Rattle.model.specs.Trace.{TraceAnswer, TraceResult, traced, slots, traceRun, tracePlan, trace, traceBytes, resultOf, outputAfter}
-use Rattle.theory.proofs.Sound.{sound-plan, nextIn-arc}
-use Rattle.theory.proofs.Schedules.{task-sound}
-use Rattle.plan.specs.View.{arcsIn}
-use Rattle.policy.specs.View.{TasksInRange}
 use Rattle.tracer.specs.declared.Refusal.{Refusal}
 use Rattle.tracer.specs.declared.Answer.{Answer}
 use Rattle.tracer.specs.declared.Answer.the-variants.{Refused, Written}
-use Rattle.tracer.specs.Promise.{StatesFit, refusalNumber, Told}
+use Rattle.tracer.specs.Promise.{refusalNumber, Told}
 use Rattle.tracer.proofs.Slots.{slots-length, trace-length}
 
 -- what is told of an answer is told of any that is equal
@@ -67,19 +61,3 @@ module _ (plan ls : List ℕ) (lent : ℕ) where
   pub by-plan : (a : PlanAnswer) → traceRoom ≤ lent → readPlan plan ≡ a → trace plan ls lent ≡ tracePlan a ls
   unfolding trace
   by-plan a h e = λ i. cond (le-ltb lent traceRoom h i) (TraceAnswer.refused shortMemory) (tracePlan (e i) ls)
-
--- a sound plan's next states are states, and its tasks are in range
-module _ (P : Plan) (s : IsSound P) where
-  pub states-fit : (next : List ℕ) → P .arcs ≡ arcsIn next → StatesFit next
-  states-fit next e = record { to = λ from l t h. fits from l t (subst (λ as′. nextIn as′ from l ≡ some t) (sym e) h) }
-    where
-      fits : (from l t : ℕ) → nextIn (P .arcs) from l ≡ some t → t < maxStates
-      fits from l t h =
-          let a = nextIn-arc (P .arcs) from l t h in
-          subst (λ (n : ℕ). n < maxStates) (a .4) (lt-of-lt-of-le (sound-plan P s .arc (a .0) (a .1) .toBelow) (sound-plan P s .statesFit))
-
-  pub tasks-range : TasksInRange (P .tasks)
-  tasks-range = record {
-    count = sound-plan P s .tasksFit;
-    each = λ i h. let t = task-sound P (sound-plan P s) i h in record { work = t .someWork; within = t .workFits; window = t .windowFits };
-  }

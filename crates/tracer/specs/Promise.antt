@@ -1,22 +1,15 @@
 -- What the trace call promises.
 use mathlib.Core.Path.{_≡_}
 use mathlib.Core.List.{List}
-use mathlib.Core.Option.{some}
-use Prim.Native.Nat.{ℕ, _<_}
+use Prim.Native.Nat.{ℕ}
 use lib.ListN.{length}
-use Rattle.model.specs.Limits.{maxStates}
 use Rattle.model.specs.Refusals.{shortMemory, tooManyLabels, notAdmitted}
-use Rattle.model.specs.Plan.{nextIn}
 use Rattle.model.specs.Trace.{TraceAnswer, TraceResult, trace, resultOf, outputAfter}
-use Rattle.plan.specs.View.{arcsIn, faultNumber}
+use Rattle.plan.specs.View.{faultNumber}
 use Rattle.tracer.specs.declared.Refusal.{Refusal}
 use Rattle.tracer.specs.declared.Refusal.the-variants.{ShortMemory, Plan, TooManyLabels, NotAdmitted}
 use Rattle.tracer.specs.declared.Answer.{Answer}
 use Rattle.tracer.specs.declared.Answer.the-variants.{Refused, Written}
-
--- every next state of the table is a state
-pub record StatesFit (next : List ℕ) : Type 0 where
-  pub to : (s l t : ℕ) → nextIn (arcsIn next) s l ≡ some t → t < maxStates
 
 -- the number of each refusal
 abbrev pub refusalNumber : Refusal → ℕ

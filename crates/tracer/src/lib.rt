@@ -12,9 +12,9 @@ ghost use Rattle.model.specs.Limits.{traceRoom};
 ghost use Rattle.model.specs.Plan as model;
 ghost use Rattle.model.specs.Schedule.{admits};
 ghost use Rattle.model.specs.Trace as model-trace;
-ghost use Rattle.plan.specs.View.{arcsIn, planOf, Sized};
+ghost use Rattle.plan.specs.View.{arcsIn, planOf, Sized, StatesFit};
 ghost use Rattle.policy.specs.View.{tasksIn, Ruled};
-ghost use Rattle.tracer.specs.Promise.{StatesFit, refusalNumber, Told, Traces};
+ghost use Rattle.tracer.specs.Promise.{refusalNumber, Told, Traces};
 
 // The most that a trace takes, and the most labels.
 pub const TRACE_ROOM: usize = 12288;

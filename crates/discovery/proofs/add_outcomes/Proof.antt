@@ -21,8 +21,8 @@ loop-holds c =
     let a = start .args in
     (omega arith, start .pre .0 .index .few, refl, added-none (a .cells) (a .state) (a .notes .now) (a .m .now) (a .n) (start .pre .0))
 
-pattern-at-requires : tie.Need-pattern-at-requires Inv-loop μ-loop
-pattern-at-requires c κs = (c .before .before .before .before .pre .1, omega arith)
+noted-pattern-requires : tie.Need-noted-pattern-requires Inv-loop μ-loop
+noted-pattern-requires c κs = (c .before .before .before .before .pre .1, omega arith)
 
 add-node-requires : tie.Need-add-node-requires Inv-loop μ-loop
 add-node-requires c κs =
@@ -38,10 +38,10 @@ returns c =
     let a = turn .before .before .before .before .args in
     let l = turn .before .loop in
     let one = c .before .before .before .add-node in
-    let named = c .before .before .before .before .before .pattern-at in
+    let named = c .before .before .before .before .before .noted-pattern in
     added-many (a .cells) (a .state) (a .notes .now) (a .m .now) (a .n) (l .k + 1) (a .count) (one .last .0) (one .result) (omega arith) (c .if1 .taken)
     (added-more (a .cells) (a .state) (a .notes .now) (a .m .now) (a .n) (l .k) (l .m) (l .known) (l .inv .1) (l .inv .3)
-    (named .result) (named .ensures) (one .last .0) (one .result) (one .ensures))
+    (named .result) (named .ensures .0) (one .last .0) (one .result) (one .ensures))
 
 add-k : tie.Need-add-k Inv-loop μ-loop
 add-k c = omega arith
@@ -55,12 +55,12 @@ loop-again c =
     let a = turn .before .before .before .before .args in
     let l = turn .before .loop in
     let one = c .before .before .before .add-node in
-    let named = c .before .before .before .before .before .pattern-at in (
+    let named = c .before .before .before .before .before .noted-pattern in (
       omega arith,
       c .if1 .left,
       one .kept .0 ∙ l .inv .2,
       added-more (a .cells) (a .state) (a .notes .now) (a .m .now) (a .n) (l .k) (l .m) (l .known) (l .inv .1) (l .inv .3)
-          (named .result) (named .ensures) (one .last .0) (one .result) (one .ensures),
+          (named .result) (named .ensures .0) (one .last .0) (one .result) (one .ensures),
     )
 
 same-length-2 : tie.Need-same-length-2 Inv-loop μ-loop
@@ -80,7 +80,7 @@ add-outcomes-spec =
     Inv-loop
     μ-loop
     loop-holds
-    pattern-at-requires
+    noted-pattern-requires
     add-node-requires
     same-length
     returns

@@ -1,23 +1,23 @@
 -- `discovery::explore_all` meets its contract: the rows one after another. Assumes nothing.
 use mathlib.Core.Path.{_≡_, refl, sym, ap, subst, _∙_}
 use mathlib.Core.List.{List}
-use Prim.Native.Nat.{ℕ, suc, _-_, _*_, _^_, _≤_}
+use Prim.Native.Nat.{ℕ, suc, _-_, _*_, _≤_}
 use native.Mathlib.Numerals.{add-one}
 use native.Mathlib.Omega.{arith}
-use lib.ListN.{length}
+use lib.ListN.{length, drop}
 use borrow.Author.Needs.{needs}
+use Rattle.model.specs.Graph as model
 use Rattle.model.specs.Graph.{explored}
 use Rattle.model.specs.Limits.{maxNodes}
 use Rattle.model.specs.Plan.{Plan}
-use Rattle.policy.specs.View.{tasksIn, cellCount, Cells}
-use Rattle.model.specs.Graph as model
 use Rattle.words.proofs.Memory.{part-length}
-use Rattle.graph.specs.View.{nodeOf}
-use Rattle.graph.specs.declared.Node.{Node}
+use Rattle.policy.specs.View.{tasksIn}
+use Rattle.graph.specs.Outcomes.{noteRoom}
+use Rattle.graph.specs.View.{Planned}
 use Rattle.store.specs.Store.{rowBytes}
+use Rattle.discovery.specs.Discovery.{nodeIn, Known}
 use Rattle.discovery.proofs.Growing.{known-none}
-use Rattle.discovery.proofs.Whole.{turn, known-length, row-node-at, state-below, whole-many, whole-end}
-use Rattle.discovery.specs.Discovery.{nodeIn, Known, Planned, Explored, edgesBelow}
+use Rattle.discovery.proofs.Whole.{row-cells, row-state, next-turn, whole-many, whole-end}
 use Rattle.discovery.proofs.explore_all.Statement.{statement}
 use Rattle.discovery.proofs.explore_all.Tie as tie
 
@@ -25,6 +25,7 @@ abbrev Inv-loop : tie.InvT-loop
 Inv-loop next rules notes₀ m₀ n known₀ k₀ notes m known k =
     (k ≤ maxNodes) × (known ≤ maxNodes) × (length notes ≡ length notes₀) × (length m ≡ length m₀)
     × ((P : Plan) → Planned P rules next → Known (tasksIn rules) (explored P k) m₀ m known)
+    × (drop noteRoom notes ≡ drop noteRoom notes₀)
 
 abbrev μ-loop : tie.MeasureT-loop
 μ-loop next rules notes₀ m₀ n known₀ k₀ notes m known k = maxNodes - k
@@ -34,31 +35,28 @@ unfolding explored
 loop-holds c =
     let start = c .before .before in
     let a = start .args in
-    let b = start .pre .1 in (
+    let b = start .pre .2 in (
       omega arith,
       b .held .index .few,
       refl,
       refl,
-      λ P p. subst (λ (ns : List model.Node). Known (tasksIn (a .rules)) ns (a .m .now) (a .m .now) (a .n)) (b .nodes) (known-none (tasksIn (a .rules)) (a .m .now) (a .n) (b .held)),
+      λ P p. subst (λ (ns : List model.Node). Known (tasksIn (a .rules)) ns (a .m .now) (a .m .now) (a .n)) (b .nodes)
+          (known-none (tasksIn (a .rules)) (a .m .now) (a .n) (b .held)),
+      refl,
     )
 
 row-requires : tie.Need-row-requires Inv-loop μ-loop
 row-requires c κs =
-    let start = c .before .before .before .before .before in
+    let b = c .before .before .before .before .before .pre .1 in
     let l = c .before .before .loop in
-    let b = start .pre .1 in
-    let before = l .inv .4 (b .plan) (b .planned) in
-    let held = before .held (l .inv .1) .0 in
-    (omega arith, held .index .room)
+    (omega arith, l .inv .4 (b .plan) (b .planned) .held (l .inv .1) .0 .index .room)
 
 node-of-requires : tie.Need-node-of-requires Inv-loop μ-loop
 node-of-requires c κs =
-    let start = c .before .before .before .before .before .before in
+    let b = c .before .before .before .before .before .before .pre .1 in
     let l = c .before .before .before .loop in
-    let b = start .pre .1 in
-    let before = l .inv .4 (b .plan) (b .planned) in
-    let held = before .held (l .inv .1) .0 in
-    ap length (c .row .ensures) ∙ part-length (l .m) (rowBytes * l .k) rowBytes (omega (arith, held .index .room))
+    ap length (c .row .ensures)
+    ∙ part-length (l .m) (rowBytes * l .k) rowBytes (omega (arith, l .inv .4 (b .plan) (b .planned) .held (l .inv .1) .0 .index .room))
 
 explore-node-requires : tie.Need-explore-node-requires Inv-loop μ-loop
 explore-node-requires c κs =
@@ -66,17 +64,14 @@ explore-node-requires c κs =
     let l = c .before .before .before .before .before .before .loop in
     let a = start .args in
     let b = start .pre .1 in
-    let before = l .inv .4 (b .plan) (b .planned) in
-    let held = before .held (l .inv .1) .0 in
-    let same = c .before .before .node-of .ensures ∙ ap nodeIn (c .before .before .before .row .ensures) in
-    let size : length (explored (b .plan) (l .k)) ≡ l .known = known-length (b .plan) (a .rules) (b .planned .for) (a .next .now) (b .planned .arcs) (ap length (b .planned .for .tasks) ∙ start .pre .0 .size) (a .m .now) (l .m) (l .known) (l .k) (l .inv .1) (omega arith) before in
-    let view = row-node-at (b .plan) (a .rules) (b .planned .for) (a .next .now) (b .planned .arcs) (ap length (b .planned .for .tasks) ∙ start .pre .0 .size) (a .m .now) (l .m) (l .known) (l .k) (l .inv .1) (omega arith) before in (
+    let named = c .before .before .node-of .ensures ∙ ap nodeIn (c .before .before .before .row .ensures) in
+    let u = c .before .before .node-of .result in (
       (
         start .pre .0,
-        subst (λ (u : Node). Cells (tasksIn (a .rules)) cellCount (u .cells)) (sym same) (held .cells (l .k) (omega arith)),
-        omega (arith, state-below (b .plan) (b .planned .sound) (l .k) (l .k) (omega (arith, size)), ap (λ (u : model.Node). u .state) view, ap (λ (u : Node). u .state) same),
+        row-cells (a .rules) (start .pre .0) (a .next .now) (a .m .now) (l .m) (l .known) (l .k) (l .inv .1) (omega arith) (l .inv .4) u named (b .plan) (b .planned),
+        row-state (a .rules) (start .pre .0) (a .next .now) (a .m .now) (l .m) (l .known) (l .k) (l .inv .1) (omega arith) (l .inv .4) u named (b .plan) (b .planned),
       ),
-      (held, omega (arith, l .inv .2, start .pre .2)),
+      (l .inv .4 (b .plan) (b .planned) .held (l .inv .1) .0, omega (arith, l .inv .2, start .pre .3)),
     )
 
 same-length : tie.Need-same-length Inv-loop μ-loop
@@ -97,12 +92,12 @@ returns c =
     let start = named .before .before .before .before .before .before .before in
     let a = start .args in
     let after = call .explore-node .last .1 .1 .1 .1 .0 in
-    let same = named .node-of .ensures ∙ ap nodeIn (named .before .row .ensures) in
-    let next-known : (P : Plan) → Planned P (a .rules) (a .next .now) → Known (tasksIn (a .rules)) (explored P (suc (l .k))) (a .m .now) after (call .explore-node .result) = λ P p.
-    turn P (a .rules) (p .for) (a .next .now) (p .arcs) (ap length (p .for .tasks) ∙ start .pre .0 .size) (a .m .now) (l .m) (l .known) (l .k) (l .inv .1)
-    (omega arith) (l .inv .4 P p) after (call .explore-node .result)
-    (subst (λ (u : Node). Explored (a .rules) (edgesBelow (a .next .now) (nodeOf (tasksIn (a .rules)) u) (2 ^ a .rules .count)) (l .m) (l .known) after (call .explore-node .result)) same (call .explore-node .ensures)) in
-    λ P p. whole-many P (tasksIn (a .rules)) (a .m .now) after (call .explore-node .result) (suc (l .k)) (omega arith) (next-known P p) (c .if1 .taken)
+    let then =
+    next-turn (a .rules) (start .pre .0) (a .next .now) (a .m .now) (l .m) (l .known) (l .k) (l .inv .1) (omega arith) (l .inv .4)
+    (named .node-of .result) (named .node-of .ensures ∙ ap nodeIn (named .before .row .ensures)) after (call .explore-node .result) (call .explore-node .ensures .0) in (
+      λ P p. whole-many P (tasksIn (a .rules)) (a .m .now) after (call .explore-node .result) (suc (l .k)) (omega arith) (then P p) (c .if1 .taken),
+      call .explore-node .ensures .1 ∙ l .inv .5,
+    )
 
 add-k : tie.Need-add-k Inv-loop μ-loop
 add-k c = search needs
@@ -118,16 +113,15 @@ loop-again c =
     let start = named .before .before .before .before .before .before .before in
     let a = start .args in
     let after = call .explore-node .last .1 .1 .1 .1 .0 in
-    let same = named .node-of .ensures ∙ ap nodeIn (named .before .row .ensures) in
-    let next-known : (P : Plan) → Planned P (a .rules) (a .next .now) → Known (tasksIn (a .rules)) (explored P (suc (l .k))) (a .m .now) after (call .explore-node .result) = λ P p.
-    turn P (a .rules) (p .for) (a .next .now) (p .arcs) (ap length (p .for .tasks) ∙ start .pre .0 .size) (a .m .now) (l .m) (l .known) (l .k) (l .inv .1)
-    (omega arith) (l .inv .4 P p) after (call .explore-node .result)
-    (subst (λ (u : Node). Explored (a .rules) (edgesBelow (a .next .now) (nodeOf (tasksIn (a .rules)) u) (2 ^ a .rules .count)) (l .m) (l .known) after (call .explore-node .result)) same (call .explore-node .ensures)) in (
+    let then =
+    next-turn (a .rules) (start .pre .0) (a .next .now) (a .m .now) (l .m) (l .known) (l .k) (l .inv .1) (omega arith) (l .inv .4)
+    (named .node-of .result) (named .node-of .ensures ∙ ap nodeIn (named .before .row .ensures)) after (call .explore-node .result) (call .explore-node .ensures .0) in (
       omega arith,
       c .if1 .left,
       call .explore-node .kept .1 .1 .1 .0 ∙ l .inv .2,
       call .explore-node .kept .1 .1 .1 .1 .0 ∙ l .inv .3,
-      λ P p. subst (λ (i : ℕ). Known (tasksIn (a .rules)) (explored P i) (a .m .now) after (call .explore-node .result)) (sym (add-one (l .k))) (next-known P p),
+      λ P p. subst (λ (i : ℕ). Known (tasksIn (a .rules)) (explored P i) (a .m .now) after (call .explore-node .result)) (sym (add-one (l .k))) (then P p),
+      call .explore-node .ensures .1 ∙ l .inv .5,
     )
 
 same-length-3 : tie.Need-same-length-3 Inv-loop μ-loop
@@ -140,7 +134,7 @@ returns-2 : tie.Need-returns-2 Inv-loop μ-loop
 returns-2 c =
     let a = c .before .before .before .before .args in
     let l = c .before .loop in
-    λ P p. whole-end P (tasksIn (a .rules)) (a .m .now) (l .m) (l .known) (l .k) (l .inv .0) (l .inv .4 P p) (l .inv .1) (omega arith)
+    (λ P p. whole-end P (tasksIn (a .rules)) (a .m .now) (l .m) (l .known) (l .k) (l .inv .0) (l .inv .4 P p) (l .inv .1) (omega arith), l .inv .5)
 
 pub explore-all-spec : {M : Type 1} → statement M
 explore-all-spec =

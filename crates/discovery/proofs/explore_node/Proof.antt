@@ -2,10 +2,11 @@
 use mathlib.Core.Path.{_≡_, refl, subst, _∙_}
 use Prim.Native.Nat.{ℕ, _+_, _-_, _^_, _≤_}
 use native.Mathlib.Omega.{arith}
-use lib.ListN.{length}
+use lib.ListN.{length, drop}
 use borrow.Author.Needs.{needs}
 use Rattle.model.specs.Limits.{maxNodes}
 use Rattle.policy.specs.View.{tasksIn}
+use Rattle.graph.specs.Outcomes.{noteRoom}
 use Rattle.graph.specs.View.{nodeOf}
 use Rattle.discovery.specs.Discovery.{Explored, edgesBelow}
 use Rattle.discovery.proofs.Growing.{explored-none, explored-held, label-more, label-many, labels-shifted}
@@ -15,7 +16,7 @@ use Rattle.discovery.proofs.explore_node.Tie as tie
 abbrev Inv-loop : tie.InvT-loop
 Inv-loop next rules node notes₀ m₀ n labels known₀ label₀ notes m known label =
     (label ≤ labels) × (known ≤ maxNodes) × (length notes ≡ length notes₀) × (length m ≡ length m₀)
-    × Explored rules (edgesBelow next (nodeOf (tasksIn rules) node) label) m₀ n m known
+    × Explored rules (edgesBelow next (nodeOf (tasksIn rules) node) label) m₀ n m known × (drop noteRoom notes ≡ drop noteRoom notes₀)
 
 abbrev μ-loop : tie.MeasureT-loop
 μ-loop next rules node notes₀ m₀ n labels known₀ label₀ notes m known label = labels - label
@@ -23,18 +24,18 @@ abbrev μ-loop : tie.MeasureT-loop
 cast-labels : tie.Need-cast-labels Inv-loop μ-loop
 cast-labels c =
     let rules = c .before .before .before .pre .0 .0 in
-    record { fits = omega (arith, rules .size, rules .ruled .tasks .count) }
+    record { fits = omega (arith, rules .size, rules .tasks .count) }
 
 shl-labels : tie.Need-shl-labels Inv-loop μ-loop
 shl-labels c =
     let rules = c .before .before .before .pre .0 .0 in
-    omega (arith, rules .size, rules .ruled .tasks .count)
+    omega (arith, rules .size, rules .tasks .count)
 
 loop-holds : tie.Need-loop-holds Inv-loop μ-loop
 loop-holds c =
     let start = c .before .before .before in
     let a = start .args in
-    (omega arith, start .pre .1 .0 .index .few, refl, refl, explored-none (a .rules) (a .m .now) (a .n) (start .pre .1 .0))
+    (omega arith, start .pre .1 .0 .index .few, refl, refl, explored-none (a .rules) (a .m .now) (a .n) (start .pre .1 .0), refl)
 
 follow-label-requires : tie.Need-follow-label-requires Inv-loop μ-loop
 follow-label-requires c κs =
@@ -67,10 +68,12 @@ returns c =
     let a = start .args in
     let u = nodeOf (tasksIn (a .rules)) (a .node) in
     let after = call .follow-label .last .1 .1 .1 .1 .1 .0 in
-    let all = labels-shifted (a .rules .count) (omega (arith, start .pre .0 .0 .size, start .pre .0 .0 .ruled .tasks .count)) in
-    label-many (a .rules) (a .next .now) u (a .m .now) (a .n) (l .label + 1) (2 ^ a .rules .count) after (call .follow-label .result)
-    (omega (arith, all)) (c .if1 .taken)
-    (label-more (a .rules) (a .next .now) u (a .m .now) (a .n) (l .label) (l .m) (l .known) (l .inv .1) (l .inv .4) after (call .follow-label .result) (call .follow-label .ensures))
+    let all = labels-shifted (a .rules .count) (omega (arith, start .pre .0 .0 .size, start .pre .0 .0 .tasks .count)) in (
+      label-many (a .rules) (a .next .now) u (a .m .now) (a .n) (l .label + 1) (2 ^ a .rules .count) after (call .follow-label .result)
+          (omega (arith, all)) (c .if1 .taken)
+          (label-more (a .rules) (a .next .now) u (a .m .now) (a .n) (l .label) (l .m) (l .known) (l .inv .1) (l .inv .4) after (call .follow-label .result) (call .follow-label .ensures .0)),
+      call .follow-label .ensures .1 ∙ l .inv .5,
+    )
 
 add-label : tie.Need-add-label Inv-loop μ-loop
 add-label c = search needs
@@ -90,7 +93,8 @@ loop-again c =
       c .if1 .left,
       call .follow-label .kept .1 .1 .1 .1 .0 ∙ l .inv .2,
       call .follow-label .kept .1 .1 .1 .1 .1 .0 ∙ l .inv .3,
-      label-more (a .rules) (a .next .now) u (a .m .now) (a .n) (l .label) (l .m) (l .known) (l .inv .1) (l .inv .4) after (call .follow-label .result) (call .follow-label .ensures),
+      label-more (a .rules) (a .next .now) u (a .m .now) (a .n) (l .label) (l .m) (l .known) (l .inv .1) (l .inv .4) after (call .follow-label .result) (call .follow-label .ensures .0),
+      call .follow-label .ensures .1 ∙ l .inv .5,
     )
 
 same-length-3 : tie.Need-same-length-3 Inv-loop μ-loop
@@ -104,10 +108,12 @@ returns-2 c =
     let start = c .before .before .before .before .before in
     let a = start .args in
     let l = c .before .loop in
-    let shifted = labels-shifted (a .rules .count) (omega (arith, start .pre .0 .0 .size, start .pre .0 .0 .ruled .tasks .count)) in
-    let all : l .label ≡ 2 ^ a .rules .count = omega (arith, shifted) in
-    subst (λ (k : ℕ). Explored (a .rules) (edgesBelow (a .next .now) (nodeOf (tasksIn (a .rules)) (a .node)) k) (a .m .now) (a .n) (l .m) (l .known))
-    all (l .inv .4)
+    let shifted = labels-shifted (a .rules .count) (omega (arith, start .pre .0 .0 .size, start .pre .0 .0 .tasks .count)) in
+    let all : l .label ≡ 2 ^ a .rules .count = omega (arith, shifted) in (
+      subst (λ (k : ℕ). Explored (a .rules) (edgesBelow (a .next .now) (nodeOf (tasksIn (a .rules)) (a .node)) k) (a .m .now) (a .n) (l .m) (l .known))
+          all (l .inv .4),
+      l .inv .5,
+    )
 
 pub explore-node-spec : {M : Type 1} → statement M
 explore-node-spec =

@@ -1,5 +1,5 @@
 -- `discovery::follow_label` meets its contract, by whether the label is admitted. Assumes nothing.
-use mathlib.Core.Path.{sym, ap, _∙_}
+use mathlib.Core.Path.{refl, sym, ap, _∙_}
 use mathlib.Core.List.{[]}
 use mathlib.Core.Option.{some}
 use Prim.Native.Nat.{_-_, _<_}
@@ -21,10 +21,12 @@ returns : tie.Need-returns
 returns c =
     let start = c .before .before .before .before in
     let a = start .args in
-    let u = nodeOf (tasksIn (a .rules)) (a .node) in
-    explored-same (a .rules) (λ P. []) (edgesBy (a .next .now) u (a .label)) (a .m .now) (a .n) (a .m .now) (a .n)
-    (λ P. ap (edgesTo P u (a .label)) (ap nextOf (sym (c .if1 .taken)) ∙ c .before .next-state .ensures))
-    (explored-none (a .rules) (a .m .now) (a .n) (start .pre .1 .0))
+    let u = nodeOf (tasksIn (a .rules)) (a .node) in (
+      explored-same (a .rules) (λ P. []) (edgesBy (a .next .now) u (a .label)) (a .m .now) (a .n) (a .m .now) (a .n)
+          (λ P. ap (edgesTo P u (a .label)) (ap nextOf (sym (c .if1 .taken)) ∙ c .before .next-state .ensures))
+          (explored-none (a .rules) (a .m .now) (a .n) (start .pre .1 .0)),
+      refl,
+    )
 
 sub-explore-label : tie.Need-sub-explore-label
 sub-explore-label c = search needs
@@ -46,11 +48,13 @@ returns-2 c =
     let a = start .args in
     let u = nodeOf (tasksIn (a .rules)) (a .node) in
     let to = read .next-state .result in
-    let admitted : 0 < to = omega (arith, call .before .before .before .if1 .left) in
-    explored-same (a .rules) (λ P. edgesTo P u (a .label) (some (to - 1))) (edgesBy (a .next .now) u (a .label))
-    (a .m .now) (a .n) (call .explore-label .last .1 .1 .1 .1 .1 .0) (call .explore-label .result)
-    (λ P. ap (edgesTo P u (a .label)) (sym (next-some to admitted) ∙ read .next-state .ensures))
-    (call .explore-label .ensures)
+    let admitted : 0 < to = omega (arith, call .before .before .before .if1 .left) in (
+      explored-same (a .rules) (λ P. edgesTo P u (a .label) (some (to - 1))) (edgesBy (a .next .now) u (a .label))
+          (a .m .now) (a .n) (call .explore-label .last .1 .1 .1 .1 .1 .0) (call .explore-label .result)
+          (λ P. ap (edgesTo P u (a .label)) (sym (next-some to admitted) ∙ read .next-state .ensures))
+          (call .explore-label .ensures .0),
+      call .explore-label .ensures .1,
+    )
 
 pub follow-label-spec : {M : Type 1} → statement M
 follow-label-spec =

@@ -1,8 +1,6 @@
--- `graph::noted_pattern` meets its contract.
--- Assumes nothing.
-use mathlib.Core.Path.{_∙_}
+-- `graph::noted_pattern` meets its contract. Assumes nothing.
+use native.Mathlib.Omega.{arith}
 use borrow.Author.Needs.{needs}
-use Rattle.graph.proofs.Notes.{pattern-at}
 use Rattle.graph.proofs.noted_pattern.Statement.{statement}
 use Rattle.graph.proofs.noted_pattern.Tie as tie
 
@@ -16,12 +14,14 @@ read-u16-requires : tie.Need-read-u16-requires
 read-u16-requires c κs = search needs
 
 cast-result : tie.Need-cast-result
-cast-result c = search needs
+cast-result c =
+    let start = c .before .before in
+    record { fits = omega (arith, c .read-u16 .ensures, start .pre .0 .low (start .args .k) (start .pre .1)) }
 
 returns : tie.Need-returns
 returns c =
     let start = c .before .before in
-    λ count h. c .read-u16 .ensures ∙ pattern-at (start .args .memory .now) count (start .args .k) h
+    (c .read-u16 .ensures, omega (arith, c .read-u16 .ensures, start .pre .0 .low (start .args .k) (start .pre .1)))
 
 pub noted-pattern-spec : {M : Type 1} → statement M
 noted-pattern-spec =

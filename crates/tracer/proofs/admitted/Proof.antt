@@ -13,8 +13,7 @@ use lib.Seq.{drop-cons}
 use Rattle.model.specs.Limits.{maxStates}
 use Rattle.model.specs.Plan.{Plan, nextIn}
 use Rattle.model.specs.Schedule.{admits, admitsFrom}
-use Rattle.plan.specs.View.{arcsIn, nextOf}
-use Rattle.tracer.specs.Promise.{StatesFit}
+use Rattle.plan.specs.View.{arcsIn, nextOf, StatesFit}
 use Rattle.tracer.proofs.admitted.Statement.{statement}
 use Rattle.tracer.proofs.admitted.Tie as tie
 

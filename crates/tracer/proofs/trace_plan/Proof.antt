@@ -4,7 +4,8 @@ use mathlib.Core.Path.{refl, sym, _∙_}
 use denote.Ref.{now}
 use borrow.Author.Tests.{not-true, not-false}
 use Rattle.plan.specs.View.{planOf}
-use Rattle.tracer.proofs.Answers.{told-refusal, told-trace, too-many, not-admitted, all-admitted, states-fit, tasks-range}
+use Rattle.tracer.proofs.Answers.{told-refusal, told-trace, too-many, not-admitted, all-admitted}
+use Rattle.policy.proofs.Plans.{states-fit}
 use borrow.Author.Needs.{needs}
 use Rattle.tracer.proofs.trace_plan.Statement.{statement}
 use Rattle.tracer.proofs.trace_plan.Tie as tie
@@ -23,7 +24,7 @@ returns-2 c =
 rules-of-requires : tie.Need-rules-of-requires
 rules-of-requires c κs =
     let s = c .before .before .before .before .before .before .before in
-    tasks-range (planOf (s .args .plan)) (s .pre .1)
+    (s .pre .0, s .pre .1)
 
 write-slots-requires : tie.Need-write-slots-requires
 write-slots-requires c κs = search needs

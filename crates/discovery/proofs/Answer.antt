@@ -1,0 +1,82 @@
+-- The discovery's beginning, and its answer. Assumes nothing.
+use mathlib.Core.Path.{_≡_, refl, sym, ap, subst, _∙_}
+use mathlib.Core.Bool.{Bool, true, false, cond}
+use mathlib.Core.List.{List, [], _∷_}
+use mathlib.Core.Option.{none, some}
+use Prim.Native.Nat.{ℕ, suc, _≤_, _<_}
+use native.Mathlib.Omega.{arith}
+use lib.Dec.{ltb}
+use lib.ListN.{length, drop, length-map}
+use borrow.Author.Tests.{ltb-true, ltb-false, lt-ltb, le-ltb}
+use Rattle.model.specs.Graph as model
+use Rattle.model.specs.Graph.{nodes, tooLarge}
+use Rattle.model.specs.Limits.{maxNodes}
+use Rattle.model.specs.Plan.{Plan}
+use Rattle.policy.specs.View.{tasksIn}
+use Rattle.policy.specs.declared.Rules.{Rules}
+use Rattle.graph.specs.View.{nodeOf, Starts, Planned, Planning}
+use Rattle.graph.specs.declared.Node.{Node}
+use Rattle.store.specs.Store.{storeBytes, rowsIn, Distinct, Indexed}
+use Rattle.store.proofs.Rows.{rows-length}
+use Rattle.discovery.specs.declared.Discovered.{Discovered}
+use Rattle.discovery.specs.declared.Discovered.the-variants.{TooMany, Nodes}
+use Rattle.discovery.specs.Discovery.{viewOf, nodesIn, Holding, Known, Stored, Adds, Begun, Holds, Discovers}
+
+-- no rows
+no-rows : (m : List ℕ) → Distinct (rowsIn m 0)
+unfolding rowsIn
+no-rows m = record { apart = λ i j h k e. absurd (omega arith) }
+
+pub none-stored : (m : List ℕ) → Indexed m 0 → Stored m 0
+none-stored m index = record { index = index; distinct = no-rows m }
+
+-- the start node joins them
+pub begun : (r : Rules) (u : Node) → Starts u → (m m′ : List ℕ) (q : ℕ) → Indexed m 0 →
+    Adds (u .cells) (λ ts. nodeOf ts u ∷ []) m 0 m′ q → Begun r m′ q × (drop storeBytes m′ ≡ drop storeBytes m)
+unfolding nodesIn rowsIn
+begun r u starts m m′ q index adds =
+    let none-held : Holding (tasksIn r) m 0 = record { index = index; distinct = no-rows m; cells = λ j h. absurd (omega arith) } in
+    let known = adds .known (tasksIn r) none-held (starts .cells (tasksIn r)) in
+    let one : q ≤ maxNodes = by (ltb maxNodes q) refl (known .many) in
+    (record { held = known .held one .0; nodes = known .held one .1 ∙ ap (λ (v : model.Node). v ∷ []) (starts .view (tasksIn r)) }, known .beyond)
+  where
+    by : (b : Bool) → ltb maxNodes q ≡ b → (maxNodes < q → maxNodes < 1) → q ≤ maxNodes
+    by true e many = absurd (omega (arith, many (ltb-true maxNodes q e)))
+    by false e many = ltb-false maxNodes q e
+
+-- the number in an answer, and 1; 0 for none
+abbrev place : Discovered → ℕ
+place TooMany = 0
+place (Nodes n) = suc n
+
+-- the answer by the number of rows
+module _ (r : Rules) (next first begin after : List ℕ) (q : ℕ) (some-plan : Planning r next) (kept : drop storeBytes begin ≡ drop storeBytes first)
+    (known : (P : Plan) → Planned P r next → Known (tasksIn r) (nodes P) begin after q) where
+  beyond : drop storeBytes after ≡ drop storeBytes first
+  beyond = known (some-plan .plan) (some-plan .planned) .beyond ∙ kept
+
+  answer : (P : Plan) (b : Bool) → tooLarge P ≡ b → cond b none (some (length (nodes P))) ≡ cond (tooLarge P) none (some (length (nodes P)))
+  answer P b e = ap (λ (t : Bool). cond t none (some (length (nodes P)))) (sym e)
+
+  pub discovers-many : maxNodes < q → Discovers r next first after TooMany
+  unfolding tooLarge
+  discovers-many more = record {
+    answer = λ P p. answer P _ (lt-ltb maxNodes (length (nodes P)) (known P p .many more));
+    held = λ n e. absurd (omega (arith, ap place e));
+    beyond = beyond;
+  }
+
+  pub discovers-nodes : q ≤ maxNodes → Discovers r next first after (Nodes q)
+  unfolding tooLarge nodesIn
+  discovers-nodes few = record {
+    answer = λ P p.
+        ap some (size P p) ∙ answer P _ (le-ltb maxNodes (length (nodes P)) (omega (arith, size P p)));
+    held = λ n e P p.
+        subst (λ (k : ℕ). Holds P (tasksIn r) after k) (let same : q ≡ n = omega (arith, ap place e) in same)
+        record { rows = known P p .held few .0; nodes = known P p .held few .1 };
+    beyond = beyond;
+  }
+    where
+      size : (P : Plan) → Planned P r next → q ≡ length (nodes P)
+      size P p =
+          sym (ap length (sym (known P p .held few .1)) ∙ length-map (rowsIn after q) (viewOf (tasksIn r)) ∙ rows-length after q)

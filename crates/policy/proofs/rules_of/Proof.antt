@@ -1,0 +1,23 @@
+-- `policy::rules_of` meets its contract. Assumes nothing.
+use mathlib.Core.Path.{refl}
+use borrow.Author.Needs.{needs}
+use Rattle.plan.specs.View.{planOf}
+use Rattle.policy.proofs.Plans.{tasks-range, tasks-size}
+use Rattle.policy.proofs.rules_of.Statement.{statement}
+use Rattle.policy.proofs.rules_of.Tie as tie
+
+left-table-requires : tie.Need-left-table-requires
+left-table-requires c κs = search needs
+
+returns : tie.Need-returns
+returns c =
+    let start = c .before .before in
+    let plan = start .args .plan in
+    record {
+      ruled = record { tasks = tasks-range (planOf plan) (start .pre .1); size = tasks-size plan (start .pre .0); left = c .left-table .ensures };
+      tasks = refl;
+      policy = refl;
+    }
+
+pub rules-of-spec : {M : Type 1} → statement M
+rules-of-spec = tie.close (tie.spec left-table-requires returns)
