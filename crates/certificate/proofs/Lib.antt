@@ -3,3 +3,4 @@ pub mod Forms
 pub mod Pieces
 pub mod Placed
 pub mod Runs
+pub mod Least

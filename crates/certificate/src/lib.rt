@@ -1,11 +1,13 @@
 // Certificates: the form read in place and written, and the fraction.
 ghost use mathlib.Core.Path.{_≡_};
-ghost use mathlib.Core.Bool.{cond};
+ghost use mathlib.Core.Bool.{true, cond};
 ghost use mathlib.Core.List.{_∷_};
 ghost use mathlib.Core.Option.{none, some};
 ghost use Prim.Native.Nat.{_+_, _*_, _≤_, _<_};
 ghost use lib.ListN.{length, drop};
+ghost use lib.Signed.{leZ};
 ghost use Rattle.model.specs.Limits.{maxSteps};
+ghost use Rattle.model.specs.Lists.{all};
 ghost use Rattle.model.specs.Bytes.{bytes, complement, overwrite};
 ghost use Rattle.model.specs.Check as check-model;
 ghost use Rattle.model.specs.Certificate as model;
@@ -26,6 +28,10 @@ pub const MASKS_SIZE: usize = 4;
 const MAX_NODES: usize = 1024;
 
 const MAX_STEPS: usize = 1024;
+
+const MAX_POTENTIAL: i64 = 1099511627776;
+
+const MIN_POTENTIAL: i64 = -1099511627776;
 
 const MAX_P: u32 = 261120;
 
@@ -195,6 +201,55 @@ pub fn potential(s: &[u8], i: usize) -> i64
     ensures { λ z. ⌜ ((c : model.Certificate) → model.readCertificate (now (s .entry)) ≡ some c → z ≡ check-model.potentialAt (c .potentials) i) ⌝ }
 {
     words::read_i64(s, HEAD_SIZE + POTENTIAL_SIZE * i + 1)
+}
+
+// Whether a potential lies within the limit.
+fn within_limit(z: i64) -> bool
+    ensures { λ b. ⌜ b ≡ check-model.withinLimit z ⌝ }
+{
+    if z < MIN_POTENTIAL {
+        return false;
+    }
+    z <= MAX_POTENTIAL
+}
+
+// Whether every potential lies within the limit.
+pub fn within_limits(s: &[u8], parts: Parts) -> bool
+    requires { ⌜ IsRead (now s) parts ⌝ }
+    ensures { λ b. ⌜ b ≡ all check-model.withinLimit (certificateOf (now (s .entry)) parts .potentials) ⌝ }
+{
+    let n = parts.count;
+    let mut i = 0;
+    while i < n {
+        if !within_limit(potential(s, i)) {
+            return false;
+        }
+        i += 1;
+    }
+    true
+}
+
+// The smaller of two numbers.
+fn smaller(z: i64, m: i64) -> i64
+    ensures { λ r. ⌜ r ≡ cond (leZ z m) z m ⌝ }
+{
+    if z <= m { z } else { m }
+}
+
+// The start node's potential less the smallest.
+pub fn allowance(s: &[u8], parts: Parts) -> u64
+    requires { ⌜ IsRead (now s) parts × (all check-model.withinLimit (certificateOf (now s) parts .potentials) ≡ true) ⌝ }
+    ensures { λ r. ⌜ r ≡ check-model.allowance (certificateOf (now (s .entry)) parts .potentials) ⌝ }
+{
+    let n = parts.count;
+    let first = potential(s, 0);
+    let mut least = first;
+    let mut i = 0;
+    while i < n {
+        least = smaller(potential(s, i), least);
+        i += 1;
+    }
+    (first - least) as u64
 }
 
 // The label of the step j.
