@@ -82,6 +82,9 @@ refused-length n =
 pub field-length : (n : ℕ) → length (field n) ≡ length (decimal n) + 1
 field-length n = length-append (decimal n) space
 
+pub three-length : (x y z : ℕ) → length (field x ++ field y ++ field z) ≡ length (field x) + length (field y) + length (field z)
+three-length x y z = omega (arith, length-append (field x ++ field y) (field z), length-append (field x) (field y))
+
 -- the line of a slot has three fields, a number and a line feed
 pub trace-line-length : (t l r g : ℕ) →
     length (traceLine t l r g) ≡ length (field t) + length (field l) + length (field r) + length (decimal g) + 1
@@ -91,6 +94,5 @@ trace-line-length t l r g =
       arith,
       length-append (field t ++ field l ++ field r ++ decimal g) lineFeed,
       length-append (field t ++ field l ++ field r) (decimal g),
-      length-append (field t ++ field l) (field r),
-      length-append (field t) (field l),
+      three-length t l r,
     )

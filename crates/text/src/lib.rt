@@ -1,4 +1,5 @@
 // Numbers and lines as text, written into lent bytes.
+ghost use mathlib.Core.List.{_++_};
 ghost use Prim.Native.Nat.{_+_, _≤_};
 ghost use lib.ListN.{length};
 ghost use Rattle.model.specs.Text.{decimal, field, refusedLine, traceLine};
@@ -36,12 +37,22 @@ pub fn put_refusal(out: &mut [u8], n: u64) -> usize
 }
 
 // Writes n and a space.
-fn put_field(out: &mut [u8], at: usize, n: u64) -> usize
+pub fn put_field(out: &mut [u8], at: usize, n: u64) -> usize
     requires { ⌜ at + length (field n) ≤ length (now out) ⌝ }
     ensures { λ r. ⌜ Put (now (out .entry)) (now (out .exit)) at (field n) r ⌝ }
 {
     let number = put_number(out, at, n);
     put_bytes(out, number, b" ")
+}
+
+// Writes three numbers, each and a space.
+pub fn put_three_fields(out: &mut [u8], at: usize, x: u64, y: u64, z: u64) -> usize
+    requires { ⌜ at + length (field x ++ field y ++ field z) ≤ length (now out) ⌝ }
+    ensures { λ r. ⌜ Put (now (out .entry)) (now (out .exit)) at (field x ++ field y ++ field z) r ⌝ }
+{
+    let a = put_field(out, at, x);
+    let b = put_field(out, a, y);
+    put_field(out, b, z)
 }
 
 // Writes the line of a slot: its number, the label, the task that ran and the gain.
@@ -56,9 +67,7 @@ pub fn put_trace_line(
     requires { ⌜ at + length (traceLine slot label ran gain) ≤ length (now out) ⌝ }
     ensures { λ r. ⌜ Put (now (out .entry)) (now (out .exit)) at (traceLine slot label ran gain) r ⌝ }
 {
-    let a = put_field(out, at, slot);
-    let b = put_field(out, a, label);
-    let c = put_field(out, b, ran);
-    let d = put_number(out, c, gain);
-    put_bytes(out, d, b"\n")
+    let a = put_three_fields(out, at, slot, label, ran);
+    let b = put_number(out, a, gain);
+    put_bytes(out, b, b"\n")
 }
