@@ -6,3 +6,4 @@ pub mod Outcomes
 pub mod Adding
 pub mod Search
 pub mod Labels
+pub mod Edges

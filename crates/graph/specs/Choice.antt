@@ -40,6 +40,11 @@ abbrev pub ledOf : Found → Option Led
 ledOf found.None = none
 ledOf (found.Some p g) = some (record { pattern = p; gain = g })
 
+-- the gain, 0 where there is no choice
+abbrev pub gainIn : Found → ℕ
+gainIn found.None = 0
+gainIn (found.Some p g) = g
+
 -- ---- by a test of each mask
 
 -- "either 0, or, if the label releases it, C bits below bit D, clear of the pattern and of the other masks"

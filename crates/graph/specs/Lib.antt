@@ -2,3 +2,4 @@ pub mod View
 pub mod Outcomes
 pub mod Choice
 pub mod Label
+pub mod Edge

@@ -5,18 +5,19 @@ use policy::Rules;
 ghost use mathlib.Core.Path.{_≡_};
 ghost use mathlib.Core.Bool.{cond};
 ghost use mathlib.Core.List.{[], _∷_, _++_};
-ghost use Prim.Native.Nat.{ℕ, _+_, _/_, _%_, _^_, _≤_, _<_};
+ghost use Prim.Native.Nat.{ℕ, _+_, _*_, _/_, _%_, _^_, _≤_, _<_};
 ghost use lib.Dec.{eqb};
 ghost use lib.ListN.{length, getD, drop};
 ghost use Rattle.model.specs.Bytes.{bytes, overwrite};
-ghost use Rattle.model.specs.Limits.{maxTasks, maxWindow, maxValue};
+ghost use Rattle.model.specs.Limits.{maxTasks, maxWindow, maxValue, maxStates};
 ghost use Rattle.model.specs.Masks.{maskCount};
 ghost use Rattle.model.specs.Slot.{noTask};
-ghost use Rattle.plan.specs.View.{taskOf};
+ghost use Rattle.plan.specs.View.{taskOf, StatesFit};
 ghost use Rattle.policy.specs.View as policy-view;
 ghost use Rattle.policy.specs.View.{cellCount, Cells, Ruled};
 ghost use Rattle.graph.specs.Outcomes.{outcomes, scoreBytes, bestBytes, noteRoom, patternCount, none, patternIn, notesIn, Room, Noting, Cleared, tasksIn, Released, InBounds, chosenWith, outcomeIn, nextOutcomes, maskOutcomes};
-ghost use Rattle.graph.specs.Choice.{choiceOf, ledOf, fitsTask, allZero, nextChoice};
+ghost use Rattle.graph.specs.Choice.{choiceOf, ledOf, gainIn, fitsTask, allZero, nextChoice};
+ghost use Rattle.graph.specs.Edge.{noEdge, Stepped};
 ghost use Rattle.graph.specs.Label.{Readable, Reaches};
 ghost use Rattle.graph.specs.View.{Starts};
 
@@ -332,7 +333,7 @@ fn are_zero(masks: [u8; MAX_TASKS], from: usize) -> bool
 // Where the given masks for the tasks from the next on lead.
 fn choice_from(release: Release, chosen: Chosen, masks: [u8; MAX_TASKS]) -> Found
     requires { ⌜ Released release × InBounds chosen × (chosen .task ≤ release .count) × (length masks ≡ maxTasks) ⌝ }
-    ensures { λ r. ⌜ ledOf r ≡ nextChoice release chosen masks ⌝ }
+    ensures { λ r. ⌜ (ledOf r ≡ nextChoice release chosen masks) × (gainIn r ≤ maxTasks * maxValue) ⌝ }
 {
     let i = chosen.task;
     if i == release.count {
@@ -354,7 +355,7 @@ fn choice_from(release: Release, chosen: Chosen, masks: [u8; MAX_TASKS]) -> Foun
 // Where the label's choice with the given masks leads.
 pub fn choice(release: Release, taken: u8, masks: [u8; MAX_TASKS]) -> Found
     requires { ⌜ Released release × (taken < maskCount) × (length masks ≡ maxTasks) ⌝ }
-    ensures { λ r. ⌜ ledOf r ≡ choiceOf (tasksIn release) (release .label) taken masks ⌝ }
+    ensures { λ r. ⌜ (ledOf r ≡ choiceOf (tasksIn release) (release .label) taken masks) × (gainIn r ≤ maxTasks * maxValue) ⌝ }
 {
     let chosen = Chosen {
         task: 0,
@@ -363,4 +364,73 @@ pub fn choice(release: Release, taken: u8, masks: [u8; MAX_TASKS]) -> Found
         masks,
     };
     choice_from(release, chosen, masks)
+}
+
+// The same by the rules.
+fn choice_at(rules: Rules, taken: u8, label: u8, masks: [u8; MAX_TASKS]) -> Found
+    requires { ⌜ Ruled rules × (length masks ≡ maxTasks) ⌝ }
+    ensures { λ r. ⌜ (ledOf r ≡ choiceOf (policy-view.tasksIn rules) label taken masks) × (gainIn r ≤ maxTasks * maxValue) ⌝ }
+{
+    let tasks = rules.tasks;
+    let release = Release {
+        tasks,
+        count: rules.count,
+        label,
+    };
+    choice(release, taken, masks)
+}
+
+// An edge, if there is one: where it leads and both gains.
+pub struct Edge {
+    pub found: bool,
+    pub to: Node,
+    pub kept: u8,
+    pub ideal: u32,
+}
+
+fn no_edge(node: Node) -> Edge
+    ensures { λ r. ⌜ r ≡ noEdge node ⌝ }
+{
+    Edge {
+        found: false,
+        to: node,
+        kept: 0,
+        ideal: 0,
+    }
+}
+
+// The edge of a node with a label and masks.
+pub fn edge_by(
+    next: &[u8; plan::PAIRS],
+    rules: Rules,
+    node: Node,
+    label: u8,
+    masks: [u8; MAX_TASKS],
+) -> Edge
+    requires { ⌜ Ruled rules × Cells (policy-view.tasksIn rules) cellCount (node .cells) × StatesFit (now next) × (node .state < maxStates) × (length masks ≡ maxTasks) ⌝ }
+    ensures { λ r. ⌜ Stepped (now (next .entry)) rules node label masks r ⌝ }
+{
+    let entry = plan::next_state(next, node.state, label);
+    if entry == 0 {
+        return no_edge(node);
+    }
+    let after = entry - 1;
+    let found = choice_at(rules, node.taken, label, masks);
+    let Found::Some(pattern, gain) = found else {
+        return no_edge(node);
+    };
+    let before = node.cells;
+    let done = policy::slot(rules, before, label);
+    let cells = done.cells;
+    let to = Node {
+        cells,
+        taken: pattern,
+        state: after,
+    };
+    Edge {
+        found: true,
+        to,
+        kept: done.gain,
+        ideal: gain,
+    }
 }

@@ -151,6 +151,11 @@ next-in-table next s l hs hl =
     next-below next pairCount s l hl
     ∙ ap (λ (b : Bool). cond b (nextOf (getD next (s * labelCount + l) 0)) none) (lt-ltb (s * labelCount + l) pairCount (omega arith))
 
+-- an entry that is not 0
+pub next-some : (to : ℕ) → 0 < to → nextOf to ≡ some (to - 1)
+next-some zero h = absurd (omega arith)
+next-some (suc t) h = let e : t ≡ suc t - 1 = omega arith in ap some e
+
 -- a label past the table's is not admitted
 next-past : (next : List ℕ) (n s l : ℕ) → labelCount ≤ l → nextIn (arcsBelow next n) s l ≡ none
 next-past next zero s l h = refl

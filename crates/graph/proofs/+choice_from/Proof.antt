@@ -61,14 +61,19 @@ choice-from-returns t c =
     let n = c .before .before in
     let s = n .before .before .before in
     let a = s .args in
-    sym (next-found (a .release) (a .chosen) (a .t3) (s .pre .1 .0) (n .before .if1 .taken) (sym (n .are-zero .ensures) ∙ c .before .if2 .taken))
+    let bounds = s .pre .1 .1 in (
+      sym (next-found (a .release) (a .chosen) (a .t3) (s .pre .1 .0) (n .before .if1 .taken) (sym (n .are-zero .ensures) ∙ c .before .if2 .taken)),
+      omega (arith, bounds .task, bounds .gain),
+    )
 
 choice-from-returns-2 : (t : ℕ) → choice-from-lts.Need-returns-2 (claims t) (choice-from-at t) choice-from.Post
 choice-from-returns-2 t c =
     let n = c .before in
     let s = n .before .before .before in
-    let a = s .args in
-    sym (next-not-zero (a .release) (a .chosen) (a .t3) (s .pre .1 .0) (n .before .if1 .taken) (sym (n .are-zero .ensures) ∙ c .if2 .left))
+    let a = s .args in (
+      sym (next-not-zero (a .release) (a .chosen) (a .t3) (s .pre .1 .0) (n .before .if1 .taken) (sym (n .are-zero .ensures) ∙ c .if2 .left)),
+      omega arith,
+    )
 
 choice-from-task-at-requires : (t : ℕ) → choice-from-lts.Need-task-at-requires (claims t) (choice-from-at t) choice-from.Post
 choice-from-task-at-requires t c κs = search needs
@@ -92,11 +97,13 @@ choice-from-returns-3 t c =
     let n = c .before .before .before .before in
     let s = n .before .before in
     let p = s .pre .1 in
-    let a = s .args in
-    sym
-    (next-fails (a .release) (a .chosen) (a .t3) (p .0) (omega (arith, p .2, n .if1 .left)) (p .3) (omega (arith, p .0 .tasks .count, p .0 .size))
-    (sym (ap₂ (λ k b. fitsTask k b (a .chosen .pattern) (getD (a .t3) (a .chosen .task) 0)) (c .before .before .before .task-at .ensures) (c .before .before .is-released .ensures))
-    ∙ sym (c .before .fits2 .ensures) ∙ not-true (c .before .fits2 .result) (c .if3 .taken)))
+    let a = s .args in (
+      sym
+          (next-fails (a .release) (a .chosen) (a .t3) (p .0) (omega (arith, p .2, n .if1 .left)) (p .3) (omega (arith, p .0 .tasks .count, p .0 .size))
+          (sym (ap₂ (λ k b. fitsTask k b (a .chosen .pattern) (getD (a .t3) (a .chosen .task) 0)) (c .before .before .before .task-at .ensures) (c .before .before .is-released .ensures))
+          ∙ sym (c .before .fits2 .ensures) ∙ not-true (c .before .fits2 .result) (c .if3 .taken))),
+      omega arith,
+    )
 
 choice-from-with-mask-requires : (t : ℕ) → choice-from-lts.Need-with-mask-requires (claims t) (choice-from-at t) choice-from.Post
 choice-from-with-mask-requires t c κs =
@@ -128,13 +135,15 @@ choice-from-returns-4 t c =
     let p = s .pre .1 in
     let a = s .args in
     let is = c .before .before .before .before .before .task-at .ensures in
-    let f = c .before .before .before .fits2 in
-    c .choice-from .ensures
-    ∙ ap (λ k. nextChoice (a .release) k (a .t3)) (c .before .with-mask .ensures .0 ∙ ap (λ k. chosenWith k (a .chosen) (getD (a .t3) (a .chosen .task) 0)) is)
-    ∙ sym
-    (next-fits (a .release) (a .chosen) (a .t3) (p .0) (omega (arith, p .2, n .if1 .left)) (p .3) (omega (arith, p .0 .tasks .count, p .0 .size))
-    (sym (ap₂ (λ k b. fitsTask k b (a .chosen .pattern) (getD (a .t3) (a .chosen .task) 0)) is (c .before .before .before .before .is-released .ensures))
-    ∙ sym (f .ensures) ∙ not-false (f .result) (c .before .before .if3 .left)))
+    let f = c .before .before .before .fits2 in (
+      c .choice-from .ensures .0
+          ∙ ap (λ k. nextChoice (a .release) k (a .t3)) (c .before .with-mask .ensures .0 ∙ ap (λ k. chosenWith k (a .chosen) (getD (a .t3) (a .chosen .task) 0)) is)
+          ∙ sym
+          (next-fits (a .release) (a .chosen) (a .t3) (p .0) (omega (arith, p .2, n .if1 .left)) (p .3) (omega (arith, p .0 .tasks .count, p .0 .size))
+          (sym (ap₂ (λ k b. fitsTask k b (a .chosen .pattern) (getD (a .t3) (a .chosen .task) 0)) is (c .before .before .before .before .is-released .ensures))
+          ∙ sym (f .ensures) ∙ not-false (f .result) (c .before .before .if3 .left))),
+      c .choice-from .ensures .1,
+    )
 
 pub +choice-from-spec : {M : Type 1} → statement M
 +choice-from-spec =

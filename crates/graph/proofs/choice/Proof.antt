@@ -12,8 +12,10 @@ choice-from-requires c κs = search needs
 returns : tie.Need-returns
 returns c =
     let start = c .before in
-    let a = start .args in
-    c .choice-from .ensures ∙ choice-start (a .release) (a .taken) (a .masks) (start .pre .0) (start .pre .2)
+    let a = start .args in (
+      c .choice-from .ensures .0 ∙ choice-start (a .release) (a .taken) (a .masks) (start .pre .0) (start .pre .2),
+      c .choice-from .ensures .1,
+    )
 
 pub choice-spec : {M : Type 1} → statement M
 choice-spec = tie.close (tie.spec choice-from-requires returns)
