@@ -1,7 +1,6 @@
 -- Nodes join one after another. Assumes nothing.
 use mathlib.Core.Path.{_≡_, refl, sym, ap, subst, _∙_}
 use mathlib.Core.Bool.{Bool, true, false, cond}
-use mathlib.Core.Option.{some}
 use mathlib.Core.List.{List, [], _∷_, _++_, map, map-append, append-nil, foldl, foldl-append}
 use Prim.Native.Nat.{ℕ, zero, suc, _+_, _-_, _*_, _%_, _^_, _≤_, _<_}
 use native.Mathlib.Nat.{zero-add}
@@ -13,7 +12,6 @@ use Rattle.model.specs.Limits.{maxNodes, maxTasks}
 use Rattle.model.specs.Lists.{flatMap, upFrom}
 use Rattle.model.proofs.Lists.{upFrom-append, flatMap-append}
 use Rattle.model.specs.Plan.{Plan}
-use Rattle.plan.specs.View.{nextOf}
 use Rattle.policy.specs.View.{Tasks, tasksIn}
 use Rattle.policy.specs.declared.Rules.{Rules}
 use Rattle.graph.specs.Outcomes.{patternIn}
@@ -132,11 +130,6 @@ pub explored-same : (r : Rules) (es fs : Plan → List model.Edge) (m : List ℕ
 explored-same r es fs m n m′ q e x = record {
   known = λ P for. subst (λ (l : List model.Edge). Known (tasksIn r) (foldl model.add (nodesIn (tasksIn r) m n) l) m m′ q) (e P) (x .known P for);
 }
-
--- an entry of the table that is not 0
-pub next-some : (to : ℕ) → 0 < to → nextOf to ≡ some (to - 1)
-next-some zero h = absurd (omega arith)
-next-some (suc t) h = let e : t ≡ suc t - 1 = omega arith in ap some e
 
 -- of labels upward
 module _ (r : Rules) (next : List ℕ) (u : model.Node) (m : List ℕ) (n : ℕ) where

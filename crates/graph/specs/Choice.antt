@@ -15,8 +15,8 @@ use Rattle.policy.specs.View.{Tasks}
 use Rattle.graph.specs.Outcomes.{chosenWith, tasksIn}
 use Rattle.graph.specs.declared.Release.{Release}
 use Rattle.graph.specs.declared.Chosen.{Chosen}
-use Rattle.graph.specs.declared.Found.{Found}
-use Rattle.graph.specs.declared.Found.the-variants as found
+use Rattle.graph.specs.declared.Lead.{Lead}
+use Rattle.graph.specs.declared.Lead.the-variants as found
 
 -- where a choice leads: the pattern, and the clairvoyant's gain
 pub record Led : Type 0 where
@@ -36,12 +36,12 @@ ledBy ts taken (some ms) = some (record { pattern = joined taken ms / 2; gain = 
 unfoldable pub choiceOf : Tasks → ℕ → ℕ → List ℕ → Option Led
 choiceOf ts l taken given = ledBy ts taken (findChoice given (choices ts l taken))
 
-abbrev pub ledOf : Found → Option Led
+abbrev pub ledOf : Lead → Option Led
 ledOf found.None = none
 ledOf (found.Some p g) = some (record { pattern = p; gain = g })
 
 -- the gain, 0 where there is no choice
-abbrev pub gainIn : Found → ℕ
+abbrev pub gainIn : Lead → ℕ
 gainIn found.None = 0
 gainIn (found.Some p g) = g
 

@@ -289,7 +289,7 @@ pub fn reach(rules: Rules, node: Node, label: u8, notes: &mut [u8]) -> Noted
 }
 
 // Where a choice leads, if there is one: the pattern, and the gain.
-pub enum Found {
+pub enum Lead {
     None,
     Some(u8, u32),
 }
@@ -331,29 +331,29 @@ fn are_zero(masks: [u8; MAX_TASKS], from: usize) -> bool
 }
 
 // Where the given masks for the tasks from the next on lead.
-fn choice_from(release: Release, chosen: Chosen, masks: [u8; MAX_TASKS]) -> Found
+fn choice_from(release: Release, chosen: Chosen, masks: [u8; MAX_TASKS]) -> Lead
     requires { ⌜ Released release × InBounds chosen × (chosen .task ≤ release .count) × (length masks ≡ maxTasks) ⌝ }
     ensures { λ r. ⌜ (ledOf r ≡ nextChoice release chosen masks) × (gainIn r ≤ maxTasks * maxValue) ⌝ }
 {
     let i = chosen.task;
     if i == release.count {
         if are_zero(masks, i) {
-            return Found::Some(chosen.pattern >> 1, chosen.gain);
+            return Lead::Some(chosen.pattern >> 1, chosen.gain);
         }
-        return Found::None;
+        return Lead::None;
     }
     let task = task_at(release, i);
     let released = is_released(release.label, i);
     let m = masks[i];
     if !fits(task, released, chosen.pattern, m) {
-        return Found::None;
+        return Lead::None;
     }
     let joined = with_mask(chosen, task, m);
     choice_from(release, joined, masks)
 }
 
 // Where the label's choice with the given masks leads.
-pub fn choice(release: Release, taken: u8, masks: [u8; MAX_TASKS]) -> Found
+pub fn choice(release: Release, taken: u8, masks: [u8; MAX_TASKS]) -> Lead
     requires { ⌜ Released release × (taken < maskCount) × (length masks ≡ maxTasks) ⌝ }
     ensures { λ r. ⌜ (ledOf r ≡ choiceOf (tasksIn release) (release .label) taken masks) × (gainIn r ≤ maxTasks * maxValue) ⌝ }
 {
@@ -367,7 +367,7 @@ pub fn choice(release: Release, taken: u8, masks: [u8; MAX_TASKS]) -> Found
 }
 
 // The same by the rules.
-fn choice_at(rules: Rules, taken: u8, label: u8, masks: [u8; MAX_TASKS]) -> Found
+fn choice_at(rules: Rules, taken: u8, label: u8, masks: [u8; MAX_TASKS]) -> Lead
     requires { ⌜ Ruled rules × (length masks ≡ maxTasks) ⌝ }
     ensures { λ r. ⌜ (ledOf r ≡ choiceOf (policy-view.tasksIn rules) label taken masks) × (gainIn r ≤ maxTasks * maxValue) ⌝ }
 {
@@ -416,7 +416,7 @@ pub fn edge_by(
     }
     let after = entry - 1;
     let found = choice_at(rules, node.taken, label, masks);
-    let Found::Some(pattern, gain) = found else {
+    let Lead::Some(pattern, gain) = found else {
         return no_edge(node);
     };
     let before = node.cells;

@@ -7,10 +7,11 @@ use native.Mathlib.Omega.{arith}
 use borrow.Author.Needs.{needs}
 use Rattle.model.specs.Graph.{edgesTo}
 use Rattle.plan.specs.View.{nextOf}
+use Rattle.plan.proofs.View.{next-some}
 use Rattle.policy.specs.View.{tasksIn}
 use Rattle.graph.specs.View.{nodeOf}
 use Rattle.discovery.specs.Discovery.{edgesBy}
-use Rattle.discovery.proofs.Growing.{explored-none, explored-same, next-some}
+use Rattle.discovery.proofs.Growing.{explored-none, explored-same}
 use Rattle.discovery.proofs.follow_label.Statement.{statement}
 use Rattle.discovery.proofs.follow_label.Tie as tie
 
