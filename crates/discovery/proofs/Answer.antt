@@ -6,7 +6,7 @@ use mathlib.Core.Option.{none, some}
 use Prim.Native.Nat.{ℕ, suc, _≤_, _<_}
 use native.Mathlib.Omega.{arith}
 use lib.Dec.{ltb}
-use lib.ListN.{length, drop, length-map}
+use lib.ListN.{length, drop}
 use borrow.Author.Tests.{ltb-true, ltb-false, lt-ltb, le-ltb}
 use Rattle.model.specs.Graph as model
 use Rattle.model.specs.Graph.{nodes, tooLarge}
@@ -17,10 +17,10 @@ use Rattle.policy.specs.declared.Rules.{Rules}
 use Rattle.graph.specs.View.{nodeOf, Starts, Planned, Planning}
 use Rattle.graph.specs.declared.Node.{Node}
 use Rattle.store.specs.Store.{storeBytes, rowsIn, Distinct, Indexed}
-use Rattle.store.proofs.Rows.{rows-length}
 use Rattle.discovery.specs.declared.Discovered.{Discovered}
 use Rattle.discovery.specs.declared.Discovered.the-variants.{TooMany, Nodes}
-use Rattle.discovery.specs.Discovery.{viewOf, nodesIn, Holding, Known, Stored, Adds, Begun, Holds, Discovers}
+use Rattle.discovery.proofs.Held.{held-count}
+use Rattle.discovery.specs.Discovery.{nodesIn, Holding, Known, Stored, Adds, Begun, Holds, Discovers}
 
 -- no rows
 no-rows : (m : List ℕ) → Distinct (rowsIn m 0)
@@ -67,7 +67,7 @@ module _ (r : Rules) (next first begin after : List ℕ) (q : ℕ) (some-plan : 
   }
 
   pub discovers-nodes : q ≤ maxNodes → Discovers r next first after (Nodes q)
-  unfolding tooLarge nodesIn
+  unfolding tooLarge
   discovers-nodes few = record {
     answer = λ P p.
         ap some (size P p) ∙ answer P _ (le-ltb maxNodes (length (nodes P)) (omega (arith, size P p)));
@@ -78,5 +78,4 @@ module _ (r : Rules) (next first begin after : List ℕ) (q : ℕ) (some-plan : 
   }
     where
       size : (P : Plan) → Planned P r next → q ≡ length (nodes P)
-      size P p =
-          sym (ap length (sym (known P p .held few .1)) ∙ length-map (rowsIn after q) (viewOf (tasksIn r)) ∙ rows-length after q)
+      size P p = sym (held-count (tasksIn r) after q (nodes P) (known P p .held few .1))

@@ -1,11 +1,10 @@
 -- The steps of the discovery, and its end. Assumes nothing.
-use mathlib.Core.Path.{_≡_, refl, sym, ap, subst, _∙_}
+use mathlib.Core.Path.{_≡_, sym, ap, subst, _∙_}
 use mathlib.Core.Bool.{Bool, cond}
-use mathlib.Core.List.{List, [], _∷_, map, foldl, List·Memᴰ}
+use mathlib.Core.List.{List, foldl, List·Memᴰ}
 use Prim.Native.Nat.{ℕ, zero, suc, _+_, _-_, _^_, _≤_, _<_}
-use native.Mathlib.Nat.{not-suc-le-zero, le-of-suc-le-suc}
 use native.Mathlib.Omega.{arith}
-use lib.ListN.{length, getD, length-append, length-map, List·getD-map}
+use lib.ListN.{length, getD, length-append}
 use borrow.Author.Tests.{lt-ltb, le-ltb}
 use Rattle.model.specs.Graph.{Node, Edge, start, edges, edgesAt, edgesTo, edgeOf, add, explored, nodes}
 use Rattle.model.specs.Limits.{maxNodes, maxStates}
@@ -21,9 +20,9 @@ use Rattle.policy.specs.View.{Tasks, cellCount, Cells, tasksIn, Ruled, PlanFor}
 use Rattle.policy.specs.declared.Rules.{Rules}
 use Rattle.graph.specs.declared.Node as graph
 use Rattle.graph.specs.View.{nodeOf, Planned}
-use Rattle.store.specs.Store.{rowAt, rowsIn}
-use Rattle.store.proofs.Rows.{rows-length, rows-at}
-use Rattle.discovery.specs.Discovery.{nodeIn, viewOf, nodesIn, Known, Explored, edgesBelow}
+use Rattle.store.specs.Store.{rowAt}
+use Rattle.discovery.proofs.Held.{held-count, held-node}
+use Rattle.discovery.specs.Discovery.{nodeIn, nodesIn, Known, Explored, edgesBelow}
 
 -- the edges of a node by the table of next states
 pub edges-below : (P : Plan) (next : List ℕ) (count : ℕ) (u : Node) → P .arcs ≡ arcsIn next → length (P .tasks) ≡ count →
@@ -70,26 +69,11 @@ module _ (P : Plan) where
       subst (λ (i : ℕ). maxNodes < length (explored P i)) (let e : maxNodes - k + k ≡ maxNodes = omega arith in e)
       (omega (arith, h, longer k (maxNodes - k)))
 
--- a default is not read
-getD-default : (l : List Node) (i : ℕ) (d e : Node) → i < length l → getD l i d ≡ getD l i e
-getD-default [] i d e h = absurd (not-suc-le-zero h)
-getD-default (x ∷ l) zero d e h = refl
-getD-default (x ∷ l) (suc i) d e h = getD-default l i d e (le-of-suc-le-suc h)
-
 -- the k-th row is explored next
 module _ (P : Plan) (r : Rules) (for : PlanFor P r) (next : List ℕ) (arcs : P .arcs ≡ arcsIn next) (size : length (P .tasks) ≡ r .count)
     (first m : List ℕ) (known k : ℕ) (few : known ≤ maxNodes) (below : k < known) (held : Known (tasksIn r) (explored P k) first m known) where
-  pub row-node-at : nodeOf (tasksIn r) (nodeIn (rowAt m k)) ≡ getD (explored P k) k start
-  unfolding nodesIn
-  row-node-at =
-      sym (ap (viewOf (tasksIn r)) (rows-at m known k below)) ∙ sym (List·getD-map (viewOf (tasksIn r)) (rowsIn m known) k [])
-      ∙ getD-default (map (viewOf (tasksIn r)) (rowsIn m known)) k (viewOf (tasksIn r) []) start
-      (omega (arith, length-map (rowsIn m known) (viewOf (tasksIn r)), rows-length m known))
-      ∙ ap (λ (l : List Node). getD l k start) (held .held few .1)
-
-  pub known-length : length (explored P k) ≡ known
-  unfolding nodesIn
-  known-length = ap length (sym (held .held few .1)) ∙ length-map (rowsIn m known) (viewOf (tasksIn r)) ∙ rows-length m known
+  row-node-at : nodeOf (tasksIn r) (nodeIn (rowAt m k)) ≡ getD (explored P k) k start
+  row-node-at = held-node (tasksIn r) m known (explored P k) (held .held few .1) k below
 
   pub turn : (m′ : List ℕ) (q : ℕ) → Explored r (edgesBelow next (nodeOf (tasksIn r) (nodeIn (rowAt m k))) (2 ^ r .count)) m known m′ q →
       Known (tasksIn r) (explored P (suc k)) first m′ q
@@ -99,7 +83,7 @@ module _ (P : Plan) (r : Rules) (for : PlanFor P r) (next : List ℕ) (arcs : P 
       ap (λ (l : List Node). foldl add l (edgesBelow next (nodeOf (tasksIn r) (nodeIn (rowAt m k))) (2 ^ r .count) P)) (held .held few .1)
       ∙ ap (λ (u : Node). foldl add (explored P k) (edgesBelow next u (2 ^ r .count) P)) row-node-at
       ∙ ap (foldl add (explored P k)) (edges-below P next (r .count) (getD (explored P k) k start) arcs size)
-      ∙ explored-step P k (omega (arith, known-length)) in
+      ∙ explored-step P k (omega (arith, held-count (tasksIn r) m known (explored P k) (held .held few .1))) in
       record {
         held = λ h. let t = now .held h in (t .0, t .1 ∙ same);
         many = λ h. subst (λ (l : List Node). maxNodes < length l) same (now .many h);
@@ -135,10 +119,10 @@ module _ (r : Rules) (ruled : Ruled r) (next first m : List ℕ) (known k : ℕ)
 
   pub row-state : (P : Plan) → Planned P r next → u .state < maxStates
   row-state P p =
-      let size = known-length P r (p .for) next (p .arcs) (tasks-size P p) first m known k few below (held P p) in
-      let view = row-node-at P r (p .for) next (p .arcs) (tasks-size P p) first m known k few below (held P p) in
-      let state : u .state ≡ getD (explored P k) k start .state = ap (λ (v : graph.Node). v .state) named ∙ ap (λ (v : Node). v .state) view in
-      omega (arith, state-below P (p .sound) k k (omega (arith, size)), state)
+      let nodes = held P p .held few .1 in
+      let state : u .state ≡ getD (explored P k) k start .state =
+      ap (λ (v : graph.Node). v .state) named ∙ ap (λ (v : Node). v .state) (held-node (tasksIn r) m known (explored P k) nodes k below) in
+      omega (arith, state-below P (p .sound) k k (omega (arith, held-count (tasksIn r) m known (explored P k) nodes)), state)
 
   pub next-turn : (m′ : List ℕ) (q : ℕ) → Explored r (edgesBelow next (nodeOf (tasksIn r) u) (2 ^ r .count)) m known m′ q →
       (P : Plan) → Planned P r next → Known (tasksIn r) (explored P (suc k)) first m′ q
@@ -156,7 +140,6 @@ module _ (P : Plan) (ts : Tasks) (first m : List ℕ) (q k : ℕ) (few : k ≤ m
   }
 
   pub whole-end : q ≤ maxNodes → q ≤ k → Known ts (nodes P) first m q
-  unfolding nodesIn
   whole-end fits done =
-      let size : length (explored P k) ≡ q = ap length (sym (known .held fits .1)) ∙ length-map (rowsIn m q) (viewOf ts) ∙ rows-length m q in
+      let size = held-count ts m q (explored P k) (known .held fits .1) in
       subst (λ (l : List Node). Known ts l first m q) (explored-all P k few (omega (arith, size))) known
