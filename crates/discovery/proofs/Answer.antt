@@ -10,17 +10,18 @@ use lib.ListN.{length, drop}
 use borrow.Author.Tests.{ltb-true, ltb-false, lt-ltb, le-ltb}
 use Rattle.model.specs.Graph as model
 use Rattle.model.specs.Graph.{nodes, tooLarge}
-use Rattle.model.specs.Limits.{maxNodes}
-use Rattle.model.specs.Plan.{Plan}
-use Rattle.policy.specs.View.{tasksIn}
+use Rattle.model.specs.Limits.{maxNodes, maxStates}
+use Rattle.model.specs.Plan.{Plan, IsSound}
+use Rattle.policy.specs.View.{Tasks, tasksIn}
 use Rattle.policy.specs.declared.Rules.{Rules}
 use Rattle.graph.specs.View.{nodeOf, Starts, Planned, Planning}
 use Rattle.graph.specs.declared.Node.{Node}
-use Rattle.store.specs.Store.{storeBytes, rowsIn, Distinct, Indexed}
+use Rattle.store.specs.Store.{storeBytes, rowAt, rowsIn, Distinct, Indexed}
 use Rattle.discovery.specs.declared.Discovered.{Discovered}
 use Rattle.discovery.specs.declared.Discovered.the-variants.{TooMany, Nodes}
-use Rattle.discovery.proofs.Held.{held-count}
-use Rattle.discovery.specs.Discovery.{nodesIn, Holding, Known, Stored, Adds, Begun, Holds, Discovers}
+use Rattle.discovery.proofs.Held.{held-count, held-node}
+use Rattle.discovery.proofs.Whole.{state-below}
+use Rattle.discovery.specs.Discovery.{nodeIn, nodesIn, Holding, Known, Stored, Adds, Begun, Holds, Discovers}
 
 -- no rows
 no-rows : (m : List ℕ) → Distinct (rowsIn m 0)
@@ -79,3 +80,10 @@ module _ (r : Rules) (next first begin after : List ℕ) (q : ℕ) (some-plan : 
     where
       size : (P : Plan) → Planned P r next → q ≡ length (nodes P)
       size P p = sym (held-count (tasksIn r) after q (nodes P) (known P p .held few .1))
+
+-- the nodes of a sound plan are in its states
+pub node-state : (P : Plan) (ts : Tasks) (m : List ℕ) (n : ℕ) → Holds P ts m n → IsSound P → (u : ℕ) → u < n → nodeIn (rowAt m u) .state < maxStates
+unfolding nodes
+node-state P ts m n holds sound u h =
+    subst (λ (v : model.Node). v .state < maxStates) (sym (held-node ts m n (nodes P) (holds .nodes) u h))
+    (state-below P sound maxNodes u (omega (arith, held-count ts m n (nodes P) (holds .nodes))))

@@ -24,7 +24,7 @@ use Rattle.store.specs.Store.{rowBytes, maxRows, rowAt, rowsIn, indexIn, Distin
 use Rattle.store.proofs.Rows.{rows-length, rows-at}
 use Rattle.model.proofs.Tests.{same-numbers}
 use Rattle.discovery.specs.Discovery.{rowOf, nodeIn, viewOf, nodesIn, Holding, addNode, countIn, Known, Stored, Adds}
-use Rattle.discovery.proofs.Rows.{row-node, node-row}
+use Rattle.discovery.proofs.Rows.{row-node, node-row, row-length}
 
 -- a row of a node whose cells a node can hold
 pub record Row (ts : Tasks) (row : List ℕ) : Type 0 where
@@ -76,7 +76,7 @@ module _ (ts : Tasks) (u : Node) (fits : Cells ts cellCount (u .cells)) where
   -- its own row
   own-row : Row ts (rowOf u)
   own-row = record {
-    size = length-append (u .cells) (u .taken ∷ u .state ∷ []) ∙ ap (λ (n : ℕ). n + 2) (fits .size);
+    size = row-length u (fits .size);
     cells = subst (Cells ts cellCount) (sym (ap (λ (w : Node). w .cells) (node-row u (fits .size)))) fits;
   }
 
@@ -110,13 +110,17 @@ module _ (ts : Tasks) (u : Node) (fits : Cells ts cellCount (u .cells)) where
     new-nodes = map-append (viewOf ts) rows (rowOf u ∷ []) ∙ ap (λ (v : model.Node). ns ++ (v ∷ [])) own-view
 
 -- the rows of a store
-pub held-row : (ts : Tasks) (m : List ℕ) (n : ℕ) → Holding ts m n → (j : ℕ) → j < length (rowsIn m n) → Row ts (getD (rowsIn m n) j [])
-held-row ts m n held j h =
-    let below : j < n = omega (arith, rows-length m n) in
-    subst (Row ts) (sym (rows-at m n j below)) record {
-      size = part-length m (rowBytes * j) rowBytes (omega (arith, held .index .few, held .index .room));
-      cells = held .cells j below;
-    }
+module _ (ts : Tasks) (m : List ℕ) (n : ℕ) (held : Holding ts m n) where
+  pub held-row-at : (j : ℕ) → j < n → Row ts (rowAt m j)
+  held-row-at j below = record {
+    size = part-length m (rowBytes * j) rowBytes (omega (arith, held .index .few, held .index .room));
+    cells = held .cells j below;
+  }
+
+  pub held-row : (j : ℕ) → j < length (rowsIn m n) → Row ts (getD (rowsIn m n) j [])
+  held-row j h =
+      let below : j < n = omega (arith, rows-length m n) in
+      subst (Row ts) (sym (rows-at m n j below)) (held-row-at j below)
 
 holding : (ts : Tasks) (m : List ℕ) (n : ℕ) (rows : List (List ℕ)) → rowsIn m n ≡ rows → Indexed m n → Distinct (rowsIn m n) →
     ((j : ℕ) → j < length rows → Row ts (getD rows j [])) → Holding ts m n

@@ -46,3 +46,6 @@ node-row u size =
     let state : getD (rowOf u) stateAt 0 ≡ u .state =
     ap (λ (n : ℕ). getD (rowOf u) (n + 1) 0) (sym size) ∙ getD-append-add (u .cells) rest 1 0 in
     λ i. record { cells = cells i; taken = taken i; state = state i }
+
+pub row-length : (u : Node) → length (u .cells) ≡ cellCount → length (rowOf u) ≡ rowBytes
+row-length u size = length-append (u .cells) (u .taken ∷ u .state ∷ []) ∙ ap (λ (n : ℕ). n + 2) size

@@ -111,6 +111,12 @@ pub record Holds (P : Plan) (ts : Tasks) (memory : List ℕ) (n : ℕ) : Type 0 
   pub rows : Holding ts memory n
   pub nodes : nodesIn ts memory n ≡ model.nodes P
 
+-- there is a sound plan with these rules and this table, and n rows hold its nodes
+pub record Held (r : Rules) (next memory : List ℕ) (n : ℕ) : Type 0 where
+  pub plan : Plan
+  pub planned : Planned plan r next
+  pub holds : Holds plan (tasksIn r) memory n
+
 -- for every sound plan with these rules and this table: its nodes, or that they are too many; the bytes behind the store are as they were
 pub record Discovers (r : Rules) (next before after : List ℕ) (d : Discovered) : Type 0 where
   pub answer : (P : Plan) → Planned P r next → sizeOf d ≡ cond (model.tooLarge P) none (some (length (model.nodes P)))
