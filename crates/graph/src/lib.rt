@@ -209,8 +209,15 @@ fn note_masks(
     note_masks(release, chosen, at + 1, end, memory, after)
 }
 
+// Room for notes.
+pub fn note_space() -> [u8; NOTE_ROOM]
+    ensures { λ r. ⌜ length r ≡ noteRoom ⌝ }
+{
+    [0; NOTE_ROOM]
+}
+
 // Clears the notes.
-pub fn clear_notes(memory: &mut [u8])
+fn clear_notes(memory: &mut [u8])
     requires { ⌜ noteRoom ≤ length (now memory) ⌝ }
     ensures { λ _. ⌜ Cleared (now (memory .entry)) (now (memory .exit)) ⌝ }
 {
@@ -250,7 +257,7 @@ pub fn noted_pattern(memory: &[u8], count: usize, k: usize) -> u8
 }
 
 // Notes the outcomes of a label's choices from a pattern of taken slots; so many patterns are noted.
-pub fn note_choices(release: Release, taken: u8, memory: &mut [u8], count: usize) -> usize
+fn note_choices(release: Release, taken: u8, memory: &mut [u8], count: usize) -> usize
     requires { ⌜ Released release × (taken < maskCount) × Room (now memory) count ⌝ }
     ensures { λ r. ⌜ Noting (outcomes (tasksIn release) (release .label) taken) (now (memory .entry)) count (now (memory .exit)) r ⌝ }
 {
@@ -353,7 +360,7 @@ fn choice_from(release: Release, chosen: Chosen, masks: [u8; MAX_TASKS]) -> Lead
 }
 
 // Where the label's choice with the given masks leads.
-pub fn choice(release: Release, taken: u8, masks: [u8; MAX_TASKS]) -> Lead
+fn choice(release: Release, taken: u8, masks: [u8; MAX_TASKS]) -> Lead
     requires { ⌜ Released release × (taken < maskCount) × (length masks ≡ maxTasks) ⌝ }
     ensures { λ r. ⌜ (ledOf r ≡ choiceOf (tasksIn release) (release .label) taken masks) × (gainIn r ≤ maxTasks * maxValue) ⌝ }
 {
