@@ -12,10 +12,12 @@ use lib.Dec.{leb, ltb, eqb, leb·zero}
 use lib.ListN.{length, getD, take, set, length-map, length-set}
 use lib.Seq.{length-take-le, getD-set-same, getD-set-other}
 use Rattle.model.specs.Limits.{maxStates}
+use Rattle.model.specs.Plan as model
 use Rattle.model.specs.Plan.{Arc, isArc, nextIn, rising, pairBelow}
 use Rattle.model.proofs.Plan.{rising-last}
 use Rattle.plan.specs.declared.Reading.{Reading}
-use Rattle.plan.specs.View.{taskOf, tasksOf, labelCount, pairCount, arcAt, arcsBelow, arcsIn, nextOf, Within, Least, Holds}
+use Rattle.plan.specs.declared.Outcome.{Outcome}
+use Rattle.plan.specs.View.{taskOf, tasksOf, labelCount, pairCount, arcAt, arcsBelow, arcsIn, nextOf, answerWith, Within, Least, Holds}
 
 -- as many tasks as the count says
 pub task-count : (r : Reading) → Within r → length (tasksOf (r .tasks) (r .count)) ≡ r .count
@@ -173,3 +175,7 @@ next-past next (suc n) s l h =
 pub next-past-table : (next : List ℕ) (s l : ℕ) → labelCount ≤ l → nextIn (arcsIn next) s l ≡ none
 unfolding arcsIn
 next-past-table next s l h = next-past next pairCount s l h
+
+-- what was read, where the outcome is known
+pub read-as : {o u : Outcome} {a : model.PlanAnswer} (P : model.Plan) → answerWith o P ≡ a → o ≡ u → a ≡ answerWith u P
+read-as P e k = sym e ∙ ap (λ (v : Outcome). answerWith v P) k

@@ -1,19 +1,13 @@
 -- `tracer::trace` meets its contract: short output first, then the plan's faults, then the labels.
 -- Assumes nothing.
-use mathlib.Core.Path.{_≡_, sym, ap, _∙_}
 use denote.Ref.{now}
 use native.Mathlib.Omega.{arith}
-use Rattle.model.specs.Plan.{Plan, PlanAnswer}
-use Rattle.plan.specs.declared.Outcome.{Outcome}
-use Rattle.plan.specs.View.{planOf, answerWith}
+use Rattle.plan.specs.View.{planOf}
+use Rattle.plan.proofs.View.{read-as}
 use Rattle.tracer.proofs.Answers.{told-by, told-refusal, short, by-plan}
 use borrow.Author.Needs.{needs}
 use Rattle.tracer.proofs.trace.Statement.{statement}
 use Rattle.tracer.proofs.trace.Tie as tie
-
--- what was read, where the outcome is known
-read-as : {o u : Outcome} {a : PlanAnswer} (P : Plan) → answerWith o P ≡ a → o ≡ u → a ≡ answerWith u P
-read-as P e k = sym e ∙ ap (λ (v : Outcome). answerWith v P) k
 
 returns : tie.Need-returns
 returns c = told-refusal _ _ _ (short _ _ _ (c .if1 .taken))

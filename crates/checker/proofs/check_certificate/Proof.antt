@@ -1,0 +1,49 @@
+-- `checker::check_certificate` meets its contract: a fault of form, or the verdict. Assumes nothing.
+use mathlib.Core.Path.{_≡_, sym, ap, _∙_}
+use mathlib.Core.List.{List}
+use mathlib.Core.Option.{Option}
+use Prim.Native.Nat.{ℕ}
+use borrow.Author.Needs.{needs}
+use Rattle.model.specs.Certificate.{Certificate}
+use Rattle.model.specs.Check.{checkRead}
+use Rattle.certificate.specs.View.{formOf}
+use Rattle.certificate.specs.declared.Form.{Form}
+use Rattle.checker.proofs.check_certificate.Statement.{statement}
+use Rattle.checker.proofs.check_certificate.Tie as tie
+
+-- what was read, where the form is known
+read-as : (bs : List ℕ) {f g : Form} {o : Option Certificate} → formOf bs f ≡ o → f ≡ g → o ≡ formOf bs g
+read-as bs e k = sym e ∙ ap (formOf bs) k
+
+read-requires : tie.Need-read-requires
+read-requires c κs = search needs
+
+enum-told : tie.Need-enum-told
+enum-told c = search needs
+
+enum-known-parts : tie.Need-enum-known-parts
+enum-known-parts c = search needs
+
+verdict-requires : tie.Need-verdict-requires
+verdict-requires c κs =
+    let r = c .before .before .before .before in
+    let start = r .before .before .before .before in
+    (start .pre .0, start .pre .1, read-as (start .args .s .now) (r .read .ensures) (c .before .before .parts .given .1), start .pre .2)
+
+returns : tie.Need-returns
+returns c =
+    let r = c .before .before in
+    λ P p h. sym (ap (checkRead P) (read-as (r .before .before .before .before .args .s .now) (r .read .ensures) (c .enum-told .given .1)))
+
+same-length : tie.Need-same-length
+same-length c = search needs
+
+returns-2 : tie.Need-returns-2
+returns-2 c =
+    let v = c .before .before in
+    let r = v .before .before .before .before .before in
+    λ P p h. v .verdict .ensures P p h ∙ sym (ap (checkRead P) (read-as (r .before .before .before .before .args .s .now) (r .read .ensures) (v .before .before .before .parts .given .1)))
+
+pub check-certificate-spec : {M : Type 1} → statement M
+check-certificate-spec =
+    tie.close (tie.spec read-requires enum-told enum-known-parts verdict-requires returns same-length returns-2)

@@ -1,0 +1,6 @@
+pub mod Upward
+pub mod Greatest
+pub mod Numbers
+pub mod Weights
+pub mod Labels
+pub mod Nodes

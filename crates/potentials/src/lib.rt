@@ -1,0 +1,161 @@
+// The potentials of a certificate, tested against every edge of the graph.
+use graph::Node;
+use policy::Rules;
+ghost use mathlib.Core.Path.{_≡_};
+ghost use mathlib.Core.Option.{some};
+ghost use Prim.Native.Nat.{_*_, _≤_};
+ghost use lib.IntN.{pos};
+ghost use lib.ListN.{length, drop};
+ghost use lib.Signed.{leZ};
+ghost use Rattle.model.specs.Certificate.{Certificate, readCertificate};
+ghost use Rattle.model.specs.Check.{edgeOk, edgesOkFrom};
+ghost use Rattle.model.specs.Graph.{edges, edgesAt, nodes};
+ghost use Rattle.model.specs.Limits.{maxQ};
+ghost use Rattle.model.specs.Lists.{all};
+ghost use Rattle.model.specs.Plan.{Plan};
+ghost use Rattle.policy.specs.View.{tasksIn, Ruled};
+ghost use Rattle.graph.specs.Outcomes.{noteRoom};
+ghost use Rattle.graph.specs.Label.{orderIn};
+ghost use Rattle.graph.specs.View.{nodeOf};
+ghost use Rattle.potentials.specs.Potentials.{Test, Testing, potentialOf, Findable, Numbered, patternOk, Charged};
+
+// The fraction of a certificate, and the number of nodes.
+pub struct Claim {
+    pub p: u32,
+    pub q: u32,
+    pub n: usize,
+}
+
+// A gain at a price.
+fn times(price: u32, gain: u32) -> i64
+    requires { ⌜ price ≤ maxQ ⌝ }
+    ensures { λ z. ⌜ z ≡ pos (price * gain) ⌝ }
+{
+    (price as u64 * gain as u64) as i64
+}
+
+// Whether the potential of a node is at most a bound.
+fn target_holds(n: usize, s: &[u8], m: &[u8], to: Node, bound: i64) -> bool
+    requires { ⌜ Findable (now s) (now m) n to ⌝ }
+    ensures { λ b. ⌜ ((c : Certificate) → readCertificate (now (s .entry)) ≡ some c → b ≡ leZ (potentialOf (c .potentials) (now (m .entry)) n to) bound) ⌝ }
+{
+    let row = discovery::row_of(to);
+    let v = store::find(m, n, &row);
+    certificate::potential(s, v) <= bound
+}
+
+// Whether the inequality holds on the noted outcomes: `high` is the potential of the edges' node with
+// the policy's weight.
+fn outcomes_hold(
+    claim: Claim,
+    s: &[u8],
+    notes: &[u8],
+    m: &[u8],
+    count: usize,
+    cells: [u8; policy::CELLS],
+    state: u8,
+    high: i64,
+) -> bool
+    requires { ⌜ Charged claim (now s) (now notes) (now m) count cells state high ⌝ }
+    ensures { λ b. ⌜ ((c : Certificate) → readCertificate (now (s .entry)) ≡ some c → b ≡ all (patternOk claim (c .potentials) (now (notes .entry)) count (now (m .entry)) cells state high) (orderIn (now (notes .entry)) count)) ⌝ }
+{
+    let mut k = 0;
+    while k < count {
+        let taken = graph::noted_pattern(notes, count, k);
+        let pattern = taken as usize;
+        let gain = graph::best_score(notes, pattern) - 1;
+        let bound = high - times(claim.p, gain);
+        let to = Node {
+            cells,
+            taken,
+            state,
+        };
+        if !target_holds(claim.n, s, m, to, bound) {
+            return false;
+        }
+        k += 1;
+    }
+    true
+}
+
+// Whether the inequality holds on the edges of a label from the node numbered u.
+fn label_holds(
+    claim: Claim,
+    next: &[u8; plan::PAIRS],
+    rules: Rules,
+    s: &[u8],
+    u: usize,
+    node: Node,
+    label: u8,
+    notes: &mut [u8],
+    m: &[u8],
+) -> bool
+    requires { ⌜ Ruled rules × Testing rules (now next) (now m) (now s) claim × Numbered (now m) (claim .n) u node × (noteRoom ≤ length (now notes)) ⌝ }
+    ensures { λ b. ⌜ ((P : Plan) (c : Certificate) → Test P c rules (now (next .entry)) (now (m .entry)) (now (s .entry)) claim → b ≡ all (edgeOk (nodes P) (claim .p) (claim .q) (c .potentials) u) (edgesAt P (nodeOf (tasksIn rules) node) label)) ⌝ }
+    ensures { λ _. ⌜ drop noteRoom (now (notes .exit)) ≡ drop noteRoom (now (notes .entry)) ⌝ }
+{
+    let to = plan::next_state(next, node.state, label);
+    if to == 0 {
+        return true;
+    }
+    let noted = graph::reach(rules, node, label, notes);
+    let count = noted.count;
+    let done = noted.done;
+    let cells = done.cells;
+    let weight = times(claim.q, done.gain as u32);
+    let high = certificate::potential(s, u) + weight;
+    outcomes_hold(claim, s, notes, m, count, cells, to - 1, high)
+}
+
+// Whether the inequality holds on the edges from the node numbered u, labels upward.
+fn node_holds(
+    claim: Claim,
+    next: &[u8; plan::PAIRS],
+    rules: Rules,
+    s: &[u8],
+    u: usize,
+    node: Node,
+    notes: &mut [u8],
+    m: &[u8],
+) -> bool
+    requires { ⌜ Ruled rules × Testing rules (now next) (now m) (now s) claim × Numbered (now m) (claim .n) u node × (noteRoom ≤ length (now notes)) ⌝ }
+    ensures { λ b. ⌜ ((P : Plan) (c : Certificate) → Test P c rules (now (next .entry)) (now (m .entry)) (now (s .entry)) claim → b ≡ all (edgeOk (nodes P) (claim .p) (claim .q) (c .potentials) u) (edges P (nodeOf (tasksIn rules) node))) ⌝ }
+    ensures { λ _. ⌜ drop noteRoom (now (notes .exit)) ≡ drop noteRoom (now (notes .entry)) ⌝ }
+{
+    let labels = 1u8 << rules.count;
+    let mut label = 0;
+    while label < labels {
+        if !label_holds(claim, next, rules, s, u, node, label, notes, m) {
+            return false;
+        }
+        label += 1;
+    }
+    true
+}
+
+// Whether the inequality holds on every edge, nodes by number.
+pub fn edges_hold(
+    claim: Claim,
+    next: &[u8; plan::PAIRS],
+    rules: Rules,
+    s: &[u8],
+    notes: &mut [u8],
+    m: &[u8],
+) -> bool
+    requires { ⌜ Ruled rules × Testing rules (now next) (now m) (now s) claim × (noteRoom ≤ length (now notes)) ⌝ }
+    ensures { λ b. ⌜ ((P : Plan) (c : Certificate) → Test P c rules (now (next .entry)) (now (m .entry)) (now (s .entry)) claim → b ≡ edgesOkFrom P (nodes P) (claim .p) (claim .q) (c .potentials) 0 (nodes P)) ⌝ }
+    ensures { λ _. ⌜ drop noteRoom (now (notes .exit)) ≡ drop noteRoom (now (notes .entry)) ⌝ }
+{
+    let n = claim.n;
+    let mut number = 1;
+    while number <= n {
+        let u = number - 1;
+        let row = store::row(m, u);
+        let node = discovery::node_of(row);
+        if !node_holds(claim, next, rules, s, u, node, notes, m) {
+            return false;
+        }
+        number += 1;
+    }
+    true
+}
