@@ -1,6 +1,6 @@
 -- Laws of what writers of text promise.
 -- Assumes nothing.
-use mathlib.Core.Path.{sym, ap₂, _∙_}
+use mathlib.Core.Path.{_≡_, sym, ap₂, subst, _∙_}
 use mathlib.Core.List.{List, _++_}
 use Prim.Native.Nat.{ℕ, _+_, _≤_}
 use native.Mathlib.Omega.{arith}
@@ -18,6 +18,10 @@ put-join m m₁ m₂ at r r₂ xs ys fits a b = record {
   bytes = b .bytes ∙ ap₂ (λ (l : List ℕ) (i : ℕ). overwrite l i ys) (a .bytes) (a .next) ∙ overwrite-join m at xs ys fits;
   next = b .next ∙ omega (arith, a .next, length-append xs ys);
 }
+
+-- text that is equal is put alike
+pub put-as : {m n xs ys : List ℕ} {at r : ℕ} → xs ≡ ys → Put m n at xs r → Put m n at ys r
+put-as {m} {n} {at = at} {r = r} e p = subst (λ (l : List ℕ). Put m n at l r) e p
 
 -- so many bytes of a list
 pub counted : (r : ℕ) (l : List ℕ) → r ≤ length l → Counts r l

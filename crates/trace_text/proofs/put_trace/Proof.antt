@@ -7,8 +7,7 @@ use denote.Ref.{now}
 use native.Mathlib.Omega.{arith}
 use lib.ListN.{length}
 use Rattle.model.specs.Text.{refusedLine}
-use Rattle.text.specs.Put.{Put}
-use Rattle.text.proofs.Put.{counted}
+use Rattle.text.proofs.Put.{put-as, counted}
 use Rattle.text.proofs.Decimal.{refused-length, decimal-length}
 use Rattle.model.specs.Limits.{traceRoom}
 use Rattle.model.specs.Trace.{TraceAnswer, trace}
@@ -31,10 +30,6 @@ told : (t : tie.After-trace) {a : Answer} → t .trace .result ≡ a →
     Told (trace (now (t .before .before .before .before .before .before .args .plan)) (now (t .before .before .before .before .before .before .args .labels)) (length (t .before .before .rows-room .result)))
     (t .before .before .rows-room .result) (t .trace .last .1 .1 .0) a
 told t e = as-answer e (t .trace .ensures)
-
--- text that is equal is put alike
-put-as : {m n xs ys : List ℕ} {at r : ℕ} → xs ≡ ys → Put m n at xs r → Put m n at ys r
-put-as {m} {n} {at = at} {r = r} e p = subst (λ (l : List ℕ). Put m n at l r) e p
 
 rows-room-requires : tie.Need-rows-room-requires
 rows-room-requires c κs = search needs
