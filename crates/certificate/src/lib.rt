@@ -20,22 +20,22 @@ pub const POTENTIAL_SIZE: usize = 9;
 
 pub const CYCLE_SIZE: usize = 3;
 
-pub const STEP_SIZE: usize = 6;
+pub const STEP_SIZE: usize = 2 + MASKS_SIZE;
 
 // The bytes of a step's masks.
-pub const MASKS_SIZE: usize = 4;
+pub const MASKS_SIZE: usize = limits::MAX_TASKS;
 
-const MAX_NODES: usize = 1024;
+const MAX_NODES: usize = limits::MAX_NODES;
 
-const MAX_STEPS: usize = 1024;
+const MAX_STEPS: usize = limits::MAX_STEPS;
 
-const MAX_POTENTIAL: i64 = 1099511627776;
+const MAX_POTENTIAL: i64 = limits::MAX_POTENTIAL;
 
-const MIN_POTENTIAL: i64 = -1099511627776;
+const MIN_POTENTIAL: i64 = -limits::MAX_POTENTIAL;
 
-const MAX_P: u32 = 261120;
+const MAX_P: u32 = limits::MAX_P;
 
-const MAX_Q: u32 = 1044480;
+const MAX_Q: u32 = limits::MAX_Q;
 
 // A certificate's numbers, and where its lists stand: `count` potentials after the head, and `steps`
 // steps from the place `from` on.
@@ -262,12 +262,12 @@ pub fn step_label(s: &[u8], parts: Parts, j: usize) -> u8
 }
 
 // The masks of the step j.
-pub fn step_masks(s: &[u8], parts: Parts, j: usize) -> [u8; 4]
+pub fn step_masks(s: &[u8], parts: Parts, j: usize) -> [u8; MASKS_SIZE]
     requires { ⌜ IsRead (now s) parts × (j < parts .steps) ⌝ }
     ensures { λ r. ⌜ r ≡ stepAt (certificateOf (now (s .entry)) parts .steps) j .masks ⌝ }
 {
     let from = parts.from;
-    let mut masks = [0u8; 4];
+    let mut masks = [0u8; MASKS_SIZE];
     words::copy(s, from + STEP_SIZE * j + 2, &mut masks, 0, MASKS_SIZE);
     masks
 }
@@ -343,7 +343,7 @@ pub fn write_cycle_head(out: &mut [u8], at: usize, node: u16)
 }
 
 // Writes a step.
-pub fn write_step(out: &mut [u8], at: usize, label: u8, masks: [u8; 4])
+pub fn write_step(out: &mut [u8], at: usize, label: u8, masks: [u8; MASKS_SIZE])
     requires { ⌜ at + stepSize ≤ length (now out) ⌝ }
     ensures { λ _. ⌜ now (out .exit) ≡ overwrite (now (out .entry)) at (stepCommand ∷ label ∷ masks) ⌝ }
 {

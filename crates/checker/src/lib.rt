@@ -59,7 +59,7 @@ pub enum Answer {
 }
 
 // The least work memory.
-pub const WORK_ROOM: usize = 65536;
+pub const WORK_ROOM: usize = limits::WORK_ROOM;
 
 // The fraction, the count, the potentials and the cycle, each tried over the whole certificate before the next.
 fn verdict(

@@ -30,22 +30,22 @@ pub struct Node {
 
 impl Node {
     // The most nodes and tasks of a plan, the longest window, and the patterns of taken slots.
-    pub const MAX_NODES: usize = 1024;
+    pub const MAX_NODES: usize = limits::MAX_NODES;
 
-    pub const MAX_TASKS: usize = 4;
+    pub const MAX_TASKS: usize = limits::MAX_TASKS;
 
-    pub const MAX_WINDOW: usize = 8;
+    pub const MAX_WINDOW: usize = limits::MAX_WINDOW;
 
     pub const PATTERNS: usize = 1 << (Node::MAX_WINDOW - 1);
 
     // The policies.
-    pub const EDF: u8 = 1;
+    pub const EDF: u8 = limits::EDF;
 
-    pub const SRT: u8 = 2;
+    pub const SRT: u8 = limits::SRT;
 
-    pub const FIFO: u8 = 3;
+    pub const FIFO: u8 = limits::FIFO;
 
-    pub const SP: u8 = 4;
+    pub const SP: u8 = limits::SP;
 
     // The start node: no jobs, no taken slot, state 0.
     pub fn start() -> Node

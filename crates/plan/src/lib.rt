@@ -7,16 +7,16 @@ ghost use Rattle.model.specs.Plan.{Arc, nextIn, width, mayFollow, between, task
 ghost use Rattle.model.specs.Limits.{maxTasks, maxStates};
 ghost use Rattle.plan.specs.View.{faultNumber, checkNumber, answerOf, answerWith, planRead, readingOf, nothingReadWith, arcsIn, nextOf, labelCount, pairCount, Sized, Within, Least, Holds, Readable, ReadableArc, Reads, ReadsAside};
 
-const MAX_TASKS: usize = 4;
+const MAX_TASKS: usize = limits::MAX_TASKS;
 
-const MAX_WINDOW: u8 = 8;
+const MAX_WINDOW: u8 = limits::MAX_WINDOW as u8;
 
-const MAX_STATES: u8 = 16;
+const MAX_STATES: u8 = limits::MAX_STATES as u8;
 
 // The labels of a state stand side by side in the table of next states.
-pub const LABELS: usize = 16;
+pub const LABELS: usize = 1 << MAX_TASKS;
 
-pub const PAIRS: usize = 256;
+pub const PAIRS: usize = limits::MAX_STATES * LABELS;
 
 pub struct Task {
     pub work: u8,
@@ -27,11 +27,11 @@ pub struct Task {
 // A sound plan: the first `count` tasks, the policy, the number of states, and for the state S and the
 // label L, at 16 S + L, the next state and 1, or 0 where the label is not admitted.
 pub struct Plan {
-    pub tasks: [Task; 4],
+    pub tasks: [Task; MAX_TASKS],
     pub count: usize,
     pub policy: u8,
     pub states: u8,
-    pub next: [u8; 256],
+    pub next: [u8; PAIRS],
 }
 
 // Faults of a plan: bytes that end too early, an unknown command, a command out of place, an operand
@@ -71,7 +71,7 @@ pub struct PlanRead {
 // What the commands read so far say. The first `count` tasks are given; 0 stands for a policy or a
 // number of states not given yet; the next arc's 16 S + L must be `least` or more.
 struct Reading {
-    tasks: [Task; 4],
+    tasks: [Task; MAX_TASKS],
     count: usize,
     policy: u8,
     states: u8,
@@ -188,7 +188,7 @@ pub fn pair(s: u8, l: u8) -> usize
 }
 
 // The next state and 1, or 0 where the label is not admitted in the state.
-pub fn next_state(next: &[u8; 256], s: u8, l: u8) -> u8
+pub fn next_state(next: &[u8; PAIRS], s: u8, l: u8) -> u8
     requires { ⌜ s < maxStates ⌝ }
     ensures { λ r. ⌜ nextOf r ≡ nextIn (arcsIn (now (next .entry))) s l ⌝ }
 {
@@ -290,7 +290,7 @@ fn with_command(r: Reading, c: u8, x: u8, y: u8, z: u8) -> Reading
 }
 
 // One more arc, which goes into the table.
-fn with_arc(r: Reading, next: &mut [u8; 256], s: u8, l: u8, t: u8) -> Reading
+fn with_arc(r: Reading, next: &mut [u8; PAIRS], s: u8, l: u8, t: u8) -> Reading
     requires { ⌜ ReadableArc r (now next) s l t ⌝ }
     ensures { λ n. ⌜ Reads r n (now (next .entry)) (now (next .exit)) 4 s l t ⌝ }
 {
@@ -302,7 +302,7 @@ fn with_arc(r: Reading, next: &mut [u8; 256], s: u8, l: u8, t: u8) -> Reading
 }
 
 // What is read once a command without a fault is.
-fn with_next(r: Reading, next: &mut [u8; 256], c: u8, x: u8, y: u8, z: u8) -> Reading
+fn with_next(r: Reading, next: &mut [u8; PAIRS], c: u8, x: u8, y: u8, z: u8) -> Reading
     requires { ⌜ Readable r c x × Holds (now next) (r .least) × (c ≡ 4 → ReadableArc r (now next) x y z) ⌝ }
     ensures { λ n. ⌜ Reads r n (now (next .entry)) (now (next .exit)) c x y z ⌝ }
 {
@@ -322,7 +322,7 @@ fn nothing_read() -> Reading
         value: 0,
     };
     Reading {
-        tasks: [none; 4],
+        tasks: [none; MAX_TASKS],
         count: 0,
         policy: 0,
         states: 0,
@@ -332,7 +332,7 @@ fn nothing_read() -> Reading
 }
 
 // The answer, with the plan that has been read.
-fn answer(outcome: Outcome, r: Reading, next: [u8; 256]) -> PlanRead
+fn answer(outcome: Outcome, r: Reading, next: [u8; PAIRS]) -> PlanRead
     requires { ⌜ Within r × Holds next (r .least) ⌝ }
     ensures { λ a. ⌜ Sized (a .plan) ⌝ }
     ensures { λ a. ⌜ answerOf a ≡ answerWith outcome (planRead (readingOf r (arcsIn next))) ⌝ }
@@ -349,10 +349,10 @@ fn answer(outcome: Outcome, r: Reading, next: [u8; 256]) -> PlanRead
 }
 
 // A table without an arc.
-fn empty_table() -> [u8; 256]
+fn empty_table() -> [u8; PAIRS]
     ensures { λ r. ⌜ r ≡ replicate pairCount 0 ⌝ }
 {
-    [0; 256]
+    [0; PAIRS]
 }
 
 // The plan that the bytes are, or their first fault.

@@ -15,9 +15,9 @@ ghost use Rattle.model.specs.Plan.{IsSound};
 ghost use Rattle.plan.specs.View.{taskOf, tasksOf, planOf, Sized};
 ghost use Rattle.policy.specs.View.{Tasks, cellCount, slotCells, taskAt, leftIn, leftTable, jobIn, jobsOf, TasksInRange, Cells, Leaves, Filled, Low, hasWork, newWork, keyNumber, keyIn, codeIn, Chosen, tasksIn, Ruled, RulesOf, Slotted};
 
-const MAX_TASKS: usize = 4;
+const MAX_TASKS: usize = limits::MAX_TASKS;
 
-const MAX_WINDOW: usize = 8;
+const MAX_WINDOW: usize = limits::MAX_WINDOW;
 
 // Cells between slots, where no job has age 0, and during a slot, where the new jobs are the last.
 pub const CELLS: usize = MAX_TASKS * (MAX_WINDOW - 1);
@@ -25,11 +25,11 @@ pub const CELLS: usize = MAX_TASKS * (MAX_WINDOW - 1);
 pub const SLOT_CELLS: usize = MAX_TASKS * MAX_WINDOW;
 
 // The policies; any other number is static priority.
-const EDF: u8 = 1;
+const EDF: u8 = limits::EDF;
 
-const SRT: u8 = 2;
+const SRT: u8 = limits::SRT;
 
-const FIFO: u8 = 3;
+const FIFO: u8 = limits::FIFO;
 
 // The parts of a key are below these: a task, slots left or work, a cell.
 const TASK_BASE: u16 = MAX_TASKS as u16 + 1;

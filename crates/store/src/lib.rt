@@ -9,7 +9,7 @@ ghost use Rattle.store.specs.Store.{rowBytes, maxRows, hashes, storeByte
 // The bytes of a row, the most rows, and the number of hashes.
 pub const ROW_BYTES: usize = 30;
 
-pub const MAX_ROWS: usize = 1024;
+pub const MAX_ROWS: usize = limits::MAX_NODES;
 
 const HASHES: usize = 1024;
 

@@ -41,10 +41,10 @@ fn wide(x: u8) -> u64
 }
 
 // Room for the bytes of a trace.
-fn rows_room() -> [u8; 12288]
+fn rows_room() -> [u8; tracer::TRACE_ROOM]
     ensures { λ r. ⌜ traceRoom ≡ length r ⌝ }
 {
-    [0; 12288]
+    [0; tracer::TRACE_ROOM]
 }
 
 // Room for the text of a trace.

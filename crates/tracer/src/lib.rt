@@ -17,9 +17,9 @@ ghost use Rattle.policy.specs.View.{tasksIn, Ruled};
 ghost use Rattle.tracer.specs.Promise.{refusalNumber, Told, Traces};
 
 // The most that a trace takes, and the most labels.
-pub const TRACE_ROOM: usize = 12288;
+pub const TRACE_ROOM: usize = limits::TRACE_ROOM;
 
-pub const MAX_LABELS: usize = 4096;
+pub const MAX_LABELS: usize = limits::MAX_LABELS;
 
 // Why no trace is written: the output is too short, the plan has a fault, there are too many labels,
 // or one of them is not admitted.
@@ -51,7 +51,7 @@ pub enum Answer {
 }
 
 // Whether a plan with this table admits the labels.
-fn admitted(next: &[u8; 256], labels: &[u8]) -> bool
+fn admitted(next: &[u8; plan::PAIRS], labels: &[u8]) -> bool
     requires { ⌜ StatesFit (now next) ⌝ }
     ensures { λ b. ⌜ ((P : model.Plan) → P .arcs ≡ arcsIn (now (next .entry)) → b ≡ admits P (now (labels .entry))) ⌝ }
 {

@@ -1,0 +1,37 @@
+// The numbers that bound plans, certificates, traces and lent memory, each named once.
+
+// A plan's tasks, the longest window and its states.
+pub const MAX_TASKS: usize = 4;
+
+pub const MAX_WINDOW: usize = 8;
+
+pub const MAX_STATES: usize = 16;
+
+// The nodes of a graph, and the steps of a certificate's cycle.
+pub const MAX_NODES: usize = 1024;
+
+pub const MAX_STEPS: usize = 1024;
+
+// A certificate's fraction and potentials.
+pub const MAX_P: u32 = 261120;
+
+pub const MAX_Q: u32 = 1044480;
+
+pub const MAX_POTENTIAL: i64 = 1099511627776;
+
+// The labels of a trace.
+pub const MAX_LABELS: usize = 4096;
+
+// The least work memory, and the most bytes of a trace.
+pub const WORK_ROOM: usize = 65536;
+
+pub const TRACE_ROOM: usize = 12288;
+
+// The policies.
+pub const EDF: u8 = 1;
+
+pub const SRT: u8 = 2;
+
+pub const FIFO: u8 = 3;
+
+pub const SP: u8 = 4;
