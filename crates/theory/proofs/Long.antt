@@ -1,23 +1,28 @@
--- Bytes past the longest plan, and labels past the most, change no answer.
+-- Bytes past the longest plan, labels past the most, and bytes past the longest certificate change no answer.
 -- Assumes nothing.
 use mathlib.Core.Path.{_≡_, refl, sym, ap, _∙_}
-use mathlib.Core.Bool.{Bool, true, false, cond, not, _||_, false≢true}
+use mathlib.Core.Bool.{Bool, true, false, cond, not, _&&_, _||_, false≢true}
 use mathlib.Core.List.{List, [], _∷_, _++_, List·Memᴰ, List·Memᴰ·head, List·Memᴰ·tail}
+use mathlib.Core.Option.{Option, none, some, Option·none-ne-some, Option·some-injective}
 use mathlib.Core.Logic.{⊎-elim}
 use Prim.Native.Nat.{ℕ, zero, suc, _+_, _-_, _*_, _^_, _≤_, _<_}
 use native.Mathlib.Nat.{lt-of-lt-of-le}
 use native.Mathlib.Omega.{arith}
-use borrow.Author.Tests.{lt-ltb, le-ltb, ne-eqb, leb-true}
-use lib.Dec.{eqb, leb}
-use lib.ListN.{length, getD, drop, length-append, List·getD-append}
+use borrow.Author.Tests.{lt-ltb, le-ltb, ne-eqb, leb-true, eqb-true}
+use lib.Dec.{eqb, leb, ltb}
+use lib.IntN.{ℤ}
+use lib.ListN.{length, getD, drop, length-append, length-drop, List·getD-append}
 use lib.Pow.{pow-mono}
-use Rattle.model.specs.Limits.{maxTasks, maxStates, maxLabels}
+use Rattle.model.specs.Limits.{maxTasks, maxStates, maxNodes, maxSteps, maxLabels, certificateRoom}
 use Rattle.model.specs.Lists.{one}
+use Rattle.model.specs.Bytes.{number, signed, part}
+use Rattle.model.specs.Certificate.{Step, Certificate, Parsed, consParsed, has, readPotentials, readSteps, isEnd, withSteps, withPotentials, readCertificate}
 use Rattle.model.specs.Plan.{Plan, Arc, Reading, nothingRead, isZero, width, mayFollow, inRange, firstFault, fault, after, refusedOr, readFrom, readPlan, unknown, pairRises}
 use Rattle.model.specs.Refusals.{tooManyLabels, notAdmitted}
 use Rattle.model.specs.Schedule.{admits}
 use Rattle.model.specs.Trace.{TraceAnswer, traced, slots, traceRun}
 use Rattle.model.proofs.Plan.{both, width-pos, readFrom-at, fault-none, Passes}
+use Rattle.theory.proofs.Reread.{cond-some, cons-some}
 use Rattle.theory.proofs.Sound.{ArcsRise, Before, Held, held-nothing, held-after, known-le}
 
 -- the labels of a state, and the pairs of a state and a label
@@ -174,3 +179,93 @@ long-labels P ls more h = many (ls ++ more) (omega (arith, length-append ls more
   where
     many : (l : List ℕ) → maxLabels < length l → traceRun P l ≡ TraceAnswer.refused tooManyLabels
     many l h = ap (λ (b : Bool). cond b (TraceAnswer.refused tooManyLabels) (cond (admits P l) (traced (slots P [] l)) (TraceAnswer.refused notAdmitted))) (lt-ltb maxLabels (length l) h)
+
+-- ---- certificates
+
+-- so many potentials take nine bytes each
+potentials-size : (n : ℕ) (bs : List ℕ) (r : Parsed (List ℤ)) → readPotentials n bs ≡ some r → length bs ≤ 9 * n + length (r .rest)
+unfolding readPotentials
+potentials-size zero bs r e = omega (arith, ap (λ s. length (s .rest)) (Option·some-injective _ _ e))
+potentials-size (suc n) bs r e =
+    let more = readPotentials n (drop 9 bs) in
+    let t = cons-some (signed (number (part bs 1 8))) more r (cond-some (has bs 0x12 9) _ e .1) in
+    omega (arith, length-drop 9 bs, potentials-size n (drop 9 bs) (t .0) (t .1), ap (λ s. length (s .rest)) (t .2))
+
+-- up to so many steps take no more than six bytes each
+steps-size : (n : ℕ) (bs : List ℕ) (r : Parsed (List Step)) → readSteps n bs ≡ some r → length bs ≤ (2 + maxTasks) * n + length (r .rest)
+unfolding readSteps
+steps-size zero bs r e = omega (arith, ap (λ s. length (s .rest)) (Option·some-injective _ _ e))
+steps-size (suc n) bs r e = by (eqb (getD bs 0 0) 0x14) e (steps-size n (drop (2 + maxTasks) bs))
+  where
+    s : Step
+    s = record { label = getD bs 1 0; masks = part bs 2 maxTasks }
+
+    more : Option (Parsed (List Step))
+    more = readSteps n (drop (2 + maxTasks) bs)
+
+    by : (b : Bool) → cond b (cond (leb (2 + maxTasks) (length bs)) (consParsed s more) none) (some (record { value = []; rest = bs })) ≡ some r →
+        ((t : Parsed (List Step)) → more ≡ some t → length (drop (2 + maxTasks) bs) ≤ (2 + maxTasks) * n + length (t .rest)) →
+        length bs ≤ (2 + maxTasks) * suc n + length (r .rest)
+    by true k later =
+        let t = cons-some s more r (cond-some (leb (2 + maxTasks) (length bs)) (consParsed s more) k .1) in
+        omega (arith, length-drop (2 + maxTasks) bs, later (t .0) (t .1), ap (λ u. length (u .rest)) (t .2))
+    by false k later = omega (arith, ap (λ u. length (u .rest)) (Option·some-injective _ _ k))
+
+-- `15` end is one byte
+end-size : (bs : List ℕ) → isEnd bs ≡ true → length bs ≡ 1
+end-size bs h = eqb-true (length bs) 1 (both (eqb (length bs) 1) (eqb (getD bs 0 0) 0x15) h .0)
+
+module _ (p q : ℕ) (zs : List ℤ) (c : Certificate) where
+  -- the steps of a cycle, and the end
+  cycle-size : (v : ℕ) (bs : List ℕ) (o : Option (Parsed (List Step))) → readSteps maxSteps bs ≡ o → withSteps p q zs v o ≡ some c →
+      length bs ≤ (2 + maxTasks) * maxSteps + 1
+  cycle-size v bs none e f = absurd (Option·none-ne-some c f)
+  cycle-size v bs (some r) e f =
+      let two = both (isEnd (r .rest)) (ltb 0 (length (r .value))) (cond-some (isEnd (r .rest) && ltb 0 (length (r .value))) _ f .0) in
+      omega (arith, steps-size maxSteps bs r e, end-size (r .rest) (two .0))
+
+  -- what follows the potentials
+  rest-size : (bs : List ℕ) → withPotentials p q (some (record { value = zs; rest = bs })) ≡ some c → length bs ≤ 3 + ((2 + maxTasks) * maxSteps + 1)
+  rest-size bs f = by (eqb q 0) f
+    where
+      bare : Option Certificate
+      bare = some (record { p = p; q = q; potentials = zs; node = 0; steps = [] })
+
+      full : Option Certificate
+      full = withSteps p q zs (number (part bs 1 2)) (readSteps maxSteps (drop 3 bs))
+
+      by : (b : Bool) → cond b (cond (isEnd bs) bare none) (cond (has bs 0x13 3) full none) ≡ some c → length bs ≤ 3 + ((2 + maxTasks) * maxSteps + 1)
+      by true k = omega (arith, end-size bs (cond-some (isEnd bs) bare k .0))
+      by false k =
+          omega (arith, length-drop 3 bs, cycle-size (number (part bs 1 2)) (drop 3 bs) (readSteps maxSteps (drop 3 bs)) refl (cond-some (has bs 0x13 3) full k .1))
+
+-- what is read as a certificate is no longer than the longest
+certificate-size : (bs : List ℕ) (c : Certificate) → readCertificate bs ≡ some c → length bs ≤ certificateRoom
+unfolding readCertificate
+certificate-size bs c e =
+    let two = cond-some (has bs 0x11 11 && leb 1 n && leb n maxNodes) (withPotentials p q (readPotentials n (drop 11 bs))) e in
+    by (leb-true n maxNodes (both (has bs 0x11 11 && leb 1 n) (leb n maxNodes) (two .0) .1)) (readPotentials n (drop 11 bs)) refl (two .1)
+  where
+    p : ℕ
+    p = number (part bs 1 4)
+
+    q : ℕ
+    q = number (part bs 5 4)
+
+    n : ℕ
+    n = number (part bs 9 2)
+
+    by : n ≤ maxNodes → (o : Option (Parsed (List ℤ))) → readPotentials n (drop 11 bs) ≡ o → withPotentials p q o ≡ some c → length bs ≤ certificateRoom
+    by few none k f = absurd (Option·none-ne-some c f)
+    by few (some r) k f = omega (arith, length-drop 11 bs, potentials-size n (drop 11 bs) r k, rest-size p q (r .value) c (r .rest) f)
+
+-- a list longer than any certificate is none, so bytes past the longest change no answer
+pub long-certificate : (bs more : List ℕ) → certificateRoom < length bs → readCertificate (bs ++ more) ≡ readCertificate bs
+long-certificate bs more h = none-read (bs ++ more) (omega (arith, length-append bs more)) ∙ sym (none-read bs h)
+  where
+    none-read : (l : List ℕ) → certificateRoom < length l → readCertificate l ≡ none
+    none-read l long = by (readCertificate l) refl
+      where
+        by : (o : Option Certificate) → readCertificate l ≡ o → o ≡ none
+        by none e = refl
+        by (some c) e = absurd (omega (arith, certificate-size l c e))
