@@ -2,6 +2,7 @@
 ghost use mathlib.Core.Path.{_≡_};
 ghost use Prim.Native.Nat.{_+_, _≤_};
 ghost use lib.ListN.{length};
+ghost use Rattle.io.specs.Counts.{Counts};
 ghost use Rattle.records.specs.Records.{recordEnd};
 
 // Where the record at a place ends, or 0 where it is cut off.
@@ -19,4 +20,19 @@ pub fn end_of(s: &[u8], at: usize) -> usize
         return 0;
     }
     body + n
+}
+
+// Reads the next record, two bytes of length and then so many, into a buffer; how many bytes it has.
+pub fn read_next(file: i32, buf: &mut [u8]) -> usize
+    ensures { λ r. ⌜ Counts r (now (buf .exit)) ⌝ }
+{
+    let mut size = [0u8; 2];
+    if io::read_full(file, &mut size) < 2 {
+        return 0;
+    }
+    let n = words::read_u16(&size, 0) as usize;
+    if buf.len() < n {
+        return 0;
+    }
+    io::read_full(file, &mut buf[..n])
 }
