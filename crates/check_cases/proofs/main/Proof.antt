@@ -1,0 +1,137 @@
+-- `check_cases::main` is safe and ends: each turn leaves one case less.
+-- Assumes nothing.
+use mathlib.Core.Path.{_≡_}
+use borrow.Author.Needs.{needs}
+use lib.ListN.{length}
+use Rattle.check_cases.proofs.main.Statement.{statement}
+use Rattle.check_cases.proofs.main.Tie as tie
+
+abbrev Inv-loop : tie.InvT-loop
+Inv-loop plan₀ certificate₀ work₀ line₀ file left₀ plan certificate work line left =
+    (length plan ≡ 65536) × (length certificate ≡ 65536) × (length work ≡ 65536) × (length line ≡ 128)
+
+abbrev μ-loop : tie.MeasureT-loop
+μ-loop plan₀ certificate₀ work₀ line₀ file left₀ plan certificate work line left = left
+
+large-buffer-requires : tie.Need-large-buffer-requires Inv-loop μ-loop
+large-buffer-requires c κs = search needs
+
+large-buffer-requires-2 : tie.Need-large-buffer-requires-2 Inv-loop μ-loop
+large-buffer-requires-2 c κs = search needs
+
+large-buffer-requires-3 : tie.Need-large-buffer-requires-3 Inv-loop μ-loop
+large-buffer-requires-3 c κs = search needs
+
+line-room-requires : tie.Need-line-room-requires Inv-loop μ-loop
+line-room-requires c κs = search needs
+
+slice-aggregate-open-read : tie.Need-slice-aggregate-open-read Inv-loop μ-loop
+slice-aggregate-open-read c = search needs
+
+open-read-requires : tie.Need-open-read-requires Inv-loop μ-loop
+open-read-requires c κs = search needs
+
+slice-aggregate-read-full : tie.Need-slice-aggregate-read-full Inv-loop μ-loop
+slice-aggregate-read-full c = search needs
+
+read-full-requires : tie.Need-read-full-requires Inv-loop μ-loop
+read-full-requires c κs = search needs
+
+slice-aggregate-read-u16 : tie.Need-slice-aggregate-read-u16 Inv-loop μ-loop
+slice-aggregate-read-u16 c = search needs
+
+read-u16-requires : tie.Need-read-u16-requires Inv-loop μ-loop
+read-u16-requires c κs = search needs
+
+loop-holds : tie.Need-loop-holds Inv-loop μ-loop
+loop-holds c = search needs
+
+slice-aggregate-read-next : tie.Need-slice-aggregate-read-next Inv-loop μ-loop
+slice-aggregate-read-next c = search needs
+
+read-next-requires : tie.Need-read-next-requires Inv-loop μ-loop
+read-next-requires c κs = search needs
+
+slice-aggregate-read-next-2 : tie.Need-slice-aggregate-read-next-2 Inv-loop μ-loop
+slice-aggregate-read-next-2 c = search needs
+
+read-next-requires-2 : tie.Need-read-next-requires-2 Inv-loop μ-loop
+read-next-requires-2 c κs = search needs
+
+slice-aggregate-put-check : tie.Need-slice-aggregate-put-check Inv-loop μ-loop
+slice-aggregate-put-check c = search needs
+
+array-share-prefix-plan : tie.Need-array-share-prefix-plan Inv-loop μ-loop
+array-share-prefix-plan c = search needs
+
+slice-aggregate-put-check-2 : tie.Need-slice-aggregate-put-check-2 Inv-loop μ-loop
+slice-aggregate-put-check-2 c = search needs
+
+array-share-prefix-certificate : tie.Need-array-share-prefix-certificate Inv-loop μ-loop
+array-share-prefix-certificate c = search needs
+
+slice-aggregate-put-check-3 : tie.Need-slice-aggregate-put-check-3 Inv-loop μ-loop
+slice-aggregate-put-check-3 c = search needs
+
+slice-aggregate-put-check-4 : tie.Need-slice-aggregate-put-check-4 Inv-loop μ-loop
+slice-aggregate-put-check-4 c = search needs
+
+put-check-requires : tie.Need-put-check-requires Inv-loop μ-loop
+put-check-requires c κs = search needs
+
+array-share-prefix-line : tie.Need-array-share-prefix-line Inv-loop μ-loop
+array-share-prefix-line c = search needs
+
+slice-aggregate-write-all : tie.Need-slice-aggregate-write-all Inv-loop μ-loop
+slice-aggregate-write-all c = search needs
+
+write-all-requires : tie.Need-write-all-requires Inv-loop μ-loop
+write-all-requires c κs = search needs
+
+sub-left : tie.Need-sub-left Inv-loop μ-loop
+sub-left c = search needs
+
+loop-less : tie.Need-loop-less Inv-loop μ-loop
+loop-less c = search needs
+
+loop-again : tie.Need-loop-again Inv-loop μ-loop
+loop-again c = search needs
+
+returns : tie.Need-returns Inv-loop μ-loop
+returns c = search needs
+
+pub main-spec : {M : Type 1} → statement M
+main-spec =
+    tie.close
+    (tie.spec
+    Inv-loop
+    μ-loop
+    large-buffer-requires
+    large-buffer-requires-2
+    large-buffer-requires-3
+    line-room-requires
+    slice-aggregate-open-read
+    open-read-requires
+    slice-aggregate-read-full
+    read-full-requires
+    slice-aggregate-read-u16
+    read-u16-requires
+    loop-holds
+    slice-aggregate-read-next
+    read-next-requires
+    slice-aggregate-read-next-2
+    read-next-requires-2
+    slice-aggregate-put-check
+    array-share-prefix-plan
+    slice-aggregate-put-check-2
+    array-share-prefix-certificate
+    slice-aggregate-put-check-3
+    slice-aggregate-put-check-4
+    put-check-requires
+    array-share-prefix-line
+    slice-aggregate-write-all
+    write-all-requires
+    sub-left
+    loop-less
+    loop-again
+    returns)
