@@ -1,5 +1,5 @@
-// Reads each plan of plans.bin, two bytes of length and then the plan, and writes a line for it:
-// `sound`, or the line of its refusal.
+// Reads each plan of plans.bin and writes a line for it: `sound`, or the line of its refusal. The file has the number of plans
+// in two bytes, and then each behind two bytes of its length.
 ghost use Prim.Native.Nat.{_≤_};
 ghost use lib.ListN.{length};
 ghost use Rattle.io.specs.Counts.{Counts};
@@ -24,18 +24,16 @@ fn put_line(out: &mut [u8], s: &[u8]) -> usize
 }
 
 fn main() {
-    let mut space = io::large_buffer();
-    let n = io::read_full(os::open_read(b"plans.bin"), &mut space);
-    let plans: &[u8] = &space[..n];
+    let mut plan = io::large_buffer();
     let mut line = [0u8; 32];
-    let mut at = 0;
-    while at < plans.len() {
-        let end = records::end_of(plans, at);
-        if end == 0 {
-            return;
-        }
-        let k = put_line(&mut line, &plans[at + 2..end]);
+    let mut count = [0u8; 2];
+    let file = os::open_read(b"plans.bin");
+    io::read_full(file, &mut count);
+    let mut left = words::read_u16(&count, 0);
+    while 0 < left {
+        let n = records::read_next(file, &mut plan);
+        let k = put_line(&mut line, &plan[..n]);
         io::write_all(STDOUT_FILENO, &line[..k]);
-        at = end;
+        left -= 1;
     }
 }

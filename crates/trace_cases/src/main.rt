@@ -1,24 +1,20 @@
-// Traces each case of traces.bin, a plan and then its labels, each behind two bytes of its length, and writes what the
-// tracing program writes for it.
+// Traces each case of traces.bin, and writes what the tracing program writes for it. The file has the number of cases in
+// two bytes, and then for each a plan and its labels, each behind two bytes of its length.
 use libc::STDOUT_FILENO;
 
 fn main() {
-    let mut space = io::large_buffer();
+    let mut plan = io::large_buffer();
+    let mut labels = io::large_buffer();
     let mut text = trace_text::text_room();
-    let n = io::read_full(os::open_read(b"traces.bin"), &mut space);
-    let cases: &[u8] = &space[..n];
-    let mut at = 0;
-    while at < cases.len() {
-        let middle = records::end_of(cases, at);
-        if middle == 0 {
-            return;
-        }
-        let end = records::end_of(cases, middle);
-        if end == 0 {
-            return;
-        }
-        let k = trace_text::put_trace(&mut text, &cases[at + 2..middle], &cases[middle + 2..end]);
-        io::write_all(STDOUT_FILENO, &text[..k]);
-        at = end;
+    let mut count = [0u8; 2];
+    let file = os::open_read(b"traces.bin");
+    io::read_full(file, &mut count);
+    let mut left = words::read_u16(&count, 0);
+    while 0 < left {
+        let p = records::read_next(file, &mut plan);
+        let l = records::read_next(file, &mut labels);
+        let n = trace_text::put_trace(&mut text, &plan[..p], &labels[..l]);
+        io::write_all(STDOUT_FILENO, &text[..n]);
+        left -= 1;
     }
 }
