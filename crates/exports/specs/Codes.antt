@@ -1,8 +1,20 @@
--- An answer as one number.
+-- An answer as one number, and the numbers beside it.
+use mathlib.Core.List.{List, [], _∷_}
 use Prim.Native.Nat.{ℕ, _+_}
+use Rattle.model.specs.Check.{CheckAnswer}
 use Rattle.model.specs.Trace.{TraceResult}
 
 -- the bytes written, or 65,536 and the number of the refusal
 abbrev pub traceCode : TraceResult → ℕ
 traceCode (TraceResult.refused n) = 65536 + n
 traceCode (TraceResult.written n) = n
+
+-- 0, or the number of the refusal
+abbrev pub checkCode : CheckAnswer → ℕ
+checkCode (CheckAnswer.refused n) = n
+checkCode (CheckAnswer.share p q n k) = 0
+
+-- p, q, N and K, or the numbers as they were
+abbrev pub numbersAfter : CheckAnswer → List ℕ → List ℕ
+numbersAfter (CheckAnswer.refused n) before = before
+numbersAfter (CheckAnswer.share p q n k) before = p ∷ q ∷ n ∷ k ∷ []

@@ -1,8 +1,10 @@
-// The calls for programs in C and Rust: numbers and byte slices alone.
+// The calls for programs in C and Rust: numbers, byte slices and arrays of numbers alone.
 ghost use mathlib.Core.Path.{_≡_};
 ghost use lib.ListN.{length};
+ghost use Rattle.model.specs.Check.{check};
 ghost use Rattle.model.specs.Trace as model-trace;
-ghost use Rattle.exports.specs.Codes.{traceCode};
+ghost use Rattle.checker.specs.Promise.{memoryAfter};
+ghost use Rattle.exports.specs.Codes.{traceCode, checkCode, numbersAfter};
 use tracer::Answer;
 
 // The trace call: the number of bytes written, or 65,536 and the number of the refusal.
@@ -15,5 +17,27 @@ pub extern "C" fn jovnetal_trace(plan: &[u8], labels: &[u8], out: &mut [u8]) -> 
     match answer {
         Answer::Refused(r) => 65536 + r.number(),
         Answer::Written(n) => n as u64,
+    }
+}
+
+// The check call: 0 and the numbers p, q, N and K, or the number of the refusal and the numbers as they were.
+#[no_mangle]
+pub extern "C" fn jovnetal_check(
+    plan: &[u8],
+    certificate: &[u8],
+    work: &mut [u8],
+    numbers: &mut [u64; 4],
+) -> u64
+    ensures { λ r. ⌜ r ≡ checkCode (check (now (plan .entry)) (now (certificate .entry)) (length (now (work .entry)))) ⌝ }
+    ensures { λ _. ⌜ now (numbers .exit) ≡ numbersAfter (check (now (plan .entry)) (now (certificate .entry)) (length (now (work .entry)))) (now (numbers .entry)) ⌝ }
+    ensures { λ _. ⌜ now (work .exit) ≡ memoryAfter (now (work .entry)) ⌝ }
+{
+    let answer = checker::check(plan, certificate, work);
+    match answer {
+        checker::Answer::Refused(r) => r.number(),
+        checker::Answer::Share { p, q, n, k } => {
+            *numbers = [p as u64, q as u64, n as u64, k];
+            0
+        }
     }
 }
