@@ -1,0 +1,53 @@
+// The slot rule in plain Rust.
+use std::hash::{Hash, Hasher};
+
+#[derive(Clone, Copy, PartialEq, Eq)]
+pub struct Job {
+    pub task: usize,
+    pub work: u8,
+    pub left: u8,
+}
+
+// A job is hashed as one number: field by field takes about three times as long.
+impl Hash for Job {
+    fn hash<H: Hasher>(&self, state: &mut H) {
+        state.write_u32(u32::from_be_bytes([0, self.task as u8, self.work, self.left]));
+    }
+}
+
+pub struct Task {
+    pub work: u8,
+    pub window: u8,
+    pub value: u8,
+}
+
+// One slot by the rules, with the jobs in release order: the task that ran, 0 for none, and the gain.
+pub fn slot(tasks: &[Task], policy: u8, jobs: &mut Vec<Job>, label: u8) -> (u8, u16) {
+    for (i, t) in tasks.iter().enumerate() {
+        if label >> i & 1 == 1 {
+            jobs.push(Job { task: i + 1, work: t.work, left: t.window });
+        }
+    }
+    jobs.retain(|j| j.work <= j.left);
+    let key = |j: &Job| match policy {
+        1 => (j.left as usize, j.task, 0),
+        2 => (j.work as usize, j.task, j.left as usize),
+        3 => (8 + j.left as usize - tasks[j.task - 1].window as usize, j.task, 0),
+        _ => (j.task, j.left as usize, 0),
+    };
+    let first = (0..jobs.len()).min_by_key(|&k| key(&jobs[k]));
+    let mut ran = 0;
+    let mut gain = 0;
+    if let Some(k) = first {
+        jobs[k].work -= 1;
+        ran = jobs[k].task as u8;
+        if jobs[k].work == 0 {
+            gain = tasks[jobs[k].task - 1].value as u16;
+        }
+    }
+    for j in jobs.iter_mut() {
+        j.left -= 1;
+    }
+    jobs.retain(|j| j.work > 0 && j.left > 0);
+    (ran, gain)
+}
