@@ -21,6 +21,7 @@ use Rattle.model.specs.Masks.{maskCount, group, groupsBelow, maskTable, groupSt
 use Rattle.model.specs.Plan.{Task}
 use Rattle.model.specs.Slot.{noTask}
 use Rattle.model.proofs.Lists.{keep-keep, flatMap-append, mem-of-flatMap, mem-getD}
+use Rattle.masks.specs.Clear.{NextClear}
 use Rattle.masks.proofs.Groups.{groupBelow, length-table, mem-group, group-below, group-below-le, groupStart-le, group-below-from-one}
 use Rattle.theory.proofs.Edges.{mem-choices}
 use Rattle.policy.specs.View.{Tasks, InRange}
@@ -177,6 +178,17 @@ module _ (r : Release) (c : Chosen) (h : Released r) where
         → maskOutcomes r c at end ≡ nextOutcomes r (chosenWith task c mask) ++ maskOutcomes r c (at + 1) end
     unfolding outcomesWith clear
     mask-take e = rw (clear-more (c .pattern) at end lt le, eq-eqb (bitAnd mask (c .pattern)) 0 e)
+
+  -- the masks that meet the pattern are passed over
+  pub mask-next : (at end k : ℕ) → end ≤ maskCount → NextClear (c .pattern) at end k → maskOutcomes r c at end ≡ maskOutcomes r c k end
+  mask-next at end k le next = go (k - at) at (omega (arith, next .from)) (omega (arith, next .from)) (next .met)
+    where
+      go : (d i : ℕ) → i ≤ k → i + d ≡ k → ((j : ℕ) → i ≤ j → j < k → bitAnd (getD maskTable j 0) (c .pattern) ≡ 0 → ⊥) →
+          maskOutcomes r c i end ≡ maskOutcomes r c k end
+      go zero i most e met = ap (λ (j : ℕ). maskOutcomes r c j end) (let same : i ≡ k = omega arith in same)
+      go (suc d) i most e met =
+          mask-skip i end (omega (arith, next .within)) le (met i (omega arith) (omega arith))
+          ∙ go d (i + 1) (omega arith) (omega arith) (λ j from below. met j (omega arith) below)
 
 -- ---- from the start
 

@@ -10,7 +10,7 @@ ghost use lib.Dec.{eqb};
 ghost use lib.ListN.{length, getD, drop};
 ghost use Rattle.model.specs.Bytes.{bytes, overwrite};
 ghost use Rattle.model.specs.Limits.{maxTasks, maxWindow, maxValue, maxStates};
-ghost use Rattle.model.specs.Masks.{maskCount};
+ghost use Rattle.model.specs.Masks.{maskCount, maskTable};
 ghost use Rattle.model.specs.Slot.{noTask};
 ghost use Rattle.plan.specs.View.{taskOf, StatesFit};
 ghost use Rattle.policy.specs.View as policy-view;
@@ -164,15 +164,21 @@ fn is_released(label: u8, i: usize) -> bool
 
 // Notes the outcomes of the choices for the next tasks: first with no mask for the next one, then,
 // if it is released, with the masks of its work within its window.
-fn note_task(release: Release, chosen: Chosen, memory: &mut [u8], count: usize) -> usize
-    requires { ⌜ Released release × InBounds chosen × (chosen .task ≤ release .count) × Room (now memory) count ⌝ }
+fn note_task(
+    table: &[u8; masks::COUNT],
+    release: Release,
+    chosen: Chosen,
+    memory: &mut [u8],
+    count: usize,
+) -> usize
+    requires { ⌜ (now table ≡ maskTable) × Released release × InBounds chosen × (chosen .task ≤ release .count) × Room (now memory) count ⌝ }
     ensures { λ r. ⌜ Noting (nextOutcomes release chosen) (now (memory .entry)) count (now (memory .exit)) r ⌝ }
 {
     let i = chosen.task;
     if i == release.count {
         return note(memory, count, chosen);
     }
-    let idle = note_masks(release, chosen, 0, 1, memory, count);
+    let idle = note_masks(table, release, chosen, 0, 1, memory, count);
     if !is_released(release.label, i) {
         return idle;
     }
@@ -181,11 +187,12 @@ fn note_task(release: Release, chosen: Chosen, memory: &mut [u8], count: usize) 
     let window = task.window as usize;
     let start = masks::group_start(work);
     let end = masks::group_end(work, window);
-    note_masks(release, chosen, start, end, memory, idle)
+    note_masks(table, release, chosen, start, end, memory, idle)
 }
 
 // Notes the outcomes of the choices with a mask of the table, from `at` up to `end`, for the next task.
 fn note_masks(
+    table: &[u8; masks::COUNT],
     release: Release,
     chosen: Chosen,
     at: usize,
@@ -193,20 +200,18 @@ fn note_masks(
     memory: &mut [u8],
     count: usize,
 ) -> usize
-    requires { ⌜ Released release × InBounds chosen × (chosen .task < release .count) × (at ≤ end) × (end ≤ maskCount) × Room (now memory) count ⌝ }
+    requires { ⌜ (now table ≡ maskTable) × Released release × InBounds chosen × (chosen .task < release .count) × (at ≤ end) × (end ≤ maskCount) × Room (now memory) count ⌝ }
     ensures { λ r. ⌜ Noting (maskOutcomes release chosen at end) (now (memory .entry)) count (now (memory .exit)) r ⌝ }
 {
-    if at == end {
+    let k = masks::next_clear(table, at, end, chosen.pattern);
+    if k == end {
         return count;
     }
-    let m = masks::mask(at);
-    if m & chosen.pattern != 0 {
-        return note_masks(release, chosen, at + 1, end, memory, count);
-    }
+    let m = table[k];
     let task = task_at(release, chosen.task);
     let next = with_mask(chosen, task, m);
-    let after = note_task(release, next, memory, count);
-    note_masks(release, chosen, at + 1, end, memory, after)
+    let after = note_task(table, release, next, memory, count);
+    note_masks(table, release, chosen, k + 1, end, memory, after)
 }
 
 // Room for notes.
@@ -268,7 +273,8 @@ fn note_choices(release: Release, taken: u8, memory: &mut [u8], count: usize) ->
         gain: 0,
         masks,
     };
-    note_task(release, chosen, memory, count)
+    let table = masks::table();
+    note_task(&table, release, chosen, memory, count)
 }
 
 // What a label does at a node: the policy's slot, and so many patterns are noted.

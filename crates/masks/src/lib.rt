@@ -2,17 +2,35 @@
 ghost use mathlib.Core.Path.{_≡_};
 ghost use Prim.Native.Nat.{suc, _+_, _<_, _≤_, _^_};
 ghost use lib.Dec.{ltb};
-ghost use lib.ListN.{length, getD};
+ghost use lib.ListN.{length};
 ghost use Rattle.model.specs.Limits.{maxWindow};
 ghost use Rattle.model.specs.Lists.{keep};
 ghost use Rattle.model.specs.Masks.{maskCount, maskTable, group, groupStart};
+ghost use Rattle.masks.specs.Clear.{NextClear};
 
-// The mask at place i of the table.
-pub fn mask(i: usize) -> u8
-    requires { ⌜ i < maskCount ⌝ }
-    ensures { λ r. ⌜ r ≡ getD maskTable i 0 ⌝ }
+// How many masks there are.
+pub const COUNT: usize = 1 << limits::MAX_WINDOW;
+
+// The table of all masks.
+pub fn table() -> [u8; COUNT]
+    ensures { λ r. ⌜ r ≡ maskTable ⌝ }
 {
-    MASKS[i]
+    MASKS
+}
+
+// The first place of the table from `at` on, before `end`, whose mask is clear of a pattern; `end` where there is none.
+pub fn next_clear(table: &[u8; COUNT], at: usize, end: usize, pattern: u8) -> usize
+    requires { ⌜ (now table ≡ maskTable) × (at ≤ end) × (end ≤ maskCount) ⌝ }
+    ensures { λ r. ⌜ NextClear pattern at end r ⌝ }
+{
+    let mut k = at;
+    while k < end {
+        if table[k] & pattern == 0 {
+            return k;
+        }
+        k += 1;
+    }
+    end
 }
 
 // Where the group of c ones starts.
@@ -33,7 +51,7 @@ pub fn group_end(c: usize, window: usize) -> usize
 }
 
 // All 256 masks, grouped by their count of ones, upward in each group.
-const MASKS: [u8; 256] = [
+const MASKS: [u8; COUNT] = [
     0,
     1,
     2,

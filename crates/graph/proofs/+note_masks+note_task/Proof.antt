@@ -1,19 +1,19 @@
 -- The proof of the cycle of calls {note_masks, note_task}. The measure falls by a task, and within a task by a mask.
 -- Assumes nothing.
 use mathlib.Core.Path.{sym, ap, ap₂, _∙_, subst}
+use mathlib.Core.List.{List}
 use Prim.Native.Nat.{ℕ, suc, _+_, _-_, _*_, _≤_, _<_}
 use native.Mathlib.Omega.{arith}
-use lib.Bits.{bitAnd}
 use borrow.Author.Needs.{needs}
 use borrow.Author.Tests.{not-true, not-false}
-use lib.ListN.{length}
+use lib.ListN.{length, getD}
 use Rattle.model.specs.Limits.{maxWindow}
 use Rattle.model.specs.Masks.{maskCount, groupStart}
 use Rattle.model.specs.Plan.{Task}
 use Rattle.masks.proofs.Groups.{groupBelow}
 use Rattle.graph.specs.Outcomes.{Noting, chosenWith, nextOutcomes, maskOutcomes}
 use Rattle.graph.specs.declared.Chosen.{Chosen}
-use Rattle.graph.proofs.Choices.{noting-none, noting-append, mask-low, group-end-low, next-last, next-idle, next-released, task-range, mask-none, mask-skip, mask-take}
+use Rattle.graph.proofs.Choices.{noting-none, noting-append, mask-low, group-end-low, next-last, next-idle, next-released, task-range, mask-none, mask-next, mask-take}
 use borrow.Fn.Kinds.{In}
 use borrow.Fn.PlainCycle.{Measures, is, falls, and}
 use Rattle.graph.proofs.note_masks.Reads as note-masks
@@ -28,43 +28,43 @@ use Rattle.graph.proofs.task_at.Reads as task-at-reads
 use Rattle.graph.proofs.with_mask.Reads as with-mask-reads
 use Rattle.masks.proofs.group_end.Reads as group-end-reads
 use Rattle.masks.proofs.group_start.Reads as group-start-reads
-use Rattle.masks.proofs.mask.Reads as mask-reads
+use Rattle.masks.proofs.next_clear.Reads as next-clear-reads
 use Rattle.graph.proofs.+note_masks+note_task.{statement}
 use Rattle.graph.proofs.+note_masks+note_task.Tie.{close}
 
-abbrev μ-note-masks : Measures 1 note-masks-kinds.ps ℕ
-μ-note-masks κs a = suc maskCount * (a .0 .count - a .1 .0 .task - 1) + (a .1 .1 .1 .0 - a .1 .1 .0)
+abbrev μ-note-masks : Measures 2 note-masks-kinds.ps ℕ
+μ-note-masks κs a = suc maskCount * (a .1 .0 .count - a .1 .1 .0 .task - 1) + (a .1 .1 .1 .1 .0 - a .1 .1 .1 .0)
 
-abbrev μ-note-task : Measures 1 note-task-kinds.ps ℕ
-μ-note-task κs a = suc maskCount * (a .0 .count - a .1 .0 .task)
+abbrev μ-note-task : Measures 2 note-task-kinds.ps ℕ
+μ-note-task κs a = suc maskCount * (a .1 .0 .count - a .1 .1 .0 .task)
 
-abbrev note-masks-at : ℕ → In 1 note-masks-kinds.ps
+abbrev note-masks-at : ℕ → In 2 note-masks-kinds.ps
 note-masks-at t =
-    and 1 note-masks-kinds.ps (is 1 note-masks-kinds.ps μ-note-masks t) note-masks.Pre
+    and 2 note-masks-kinds.ps (is 2 note-masks-kinds.ps μ-note-masks t) note-masks.Pre
 
-abbrev note-masks-below : ℕ → In 1 note-masks-kinds.ps
+abbrev note-masks-below : ℕ → In 2 note-masks-kinds.ps
 note-masks-below t =
-    and 1 note-masks-kinds.ps (falls 1 note-masks-kinds.ps _<_ μ-note-masks t) note-masks.Pre
+    and 2 note-masks-kinds.ps (falls 2 note-masks-kinds.ps _<_ μ-note-masks t) note-masks.Pre
 
-abbrev note-task-at : ℕ → In 1 note-task-kinds.ps
-note-task-at t = and 1 note-task-kinds.ps (is 1 note-task-kinds.ps μ-note-task t) note-task.Pre
+abbrev note-task-at : ℕ → In 2 note-task-kinds.ps
+note-task-at t = and 2 note-task-kinds.ps (is 2 note-task-kinds.ps μ-note-task t) note-task.Pre
 
-abbrev note-task-below : ℕ → In 1 note-task-kinds.ps
+abbrev note-task-below : ℕ → In 2 note-task-kinds.ps
 note-task-below t =
-    and 1 note-task-kinds.ps (falls 1 note-task-kinds.ps _<_ μ-note-task t) note-task.Pre
+    and 2 note-task-kinds.ps (falls 2 note-task-kinds.ps _<_ μ-note-task t) note-task.Pre
 
 abbrev masks-claims : ℕ → note-masks-lts.Claims
 masks-claims t = (
-  mask-reads.Asked,
-  mask-reads.Learnt,
-  note-masks-below t,
-  note-masks.Post,
+  next-clear-reads.Asked,
+  next-clear-reads.Learnt,
   task-at-reads.Asked,
   task-at-reads.Learnt,
   with-mask-reads.Asked,
   with-mask-reads.Learnt,
   note-task-below t,
   note-task.Post,
+  note-masks-below t,
+  note-masks.Post,
 )
 
 abbrev task-claims : ℕ → note-task-lts.Claims
@@ -83,80 +83,77 @@ task-claims t = (
   group-end-reads.Learnt,
 )
 
+note-masks-next-clear-requires : (t : ℕ) → note-masks-lts.Need-next-clear-requires (masks-claims t) (note-masks-at t) note-masks.Post
+note-masks-next-clear-requires t c κs = search needs
+
 note-masks-returns : (t : ℕ) → note-masks-lts.Need-returns (masks-claims t) (note-masks-at t) note-masks.Post
 note-masks-returns t c =
-    let s = c .before .before in
+    let s = c .before .before .before in
     let p = s .pre .1 in
-    rw (mask-none (s .args .release) (s .args .chosen) (p .0) (s .args .at) (s .args .end) (c .if1 .taken))
-    (noting-none (s .args .memory .now) (s .args .count) (p .5))
+    let a = s .args in
+    rw (mask-next (a .release) (a .chosen) (p .1) (a .at) (a .end) (c .before .next-clear .result) (p .5) (c .before .next-clear .ensures)
+    ∙ mask-none (a .release) (a .chosen) (p .1) (c .before .next-clear .result) (a .end) (c .if1 .taken))
+    (noting-none (a .memory .now) (a .count) (p .6))
 
-note-masks-mask-requires : (t : ℕ) → note-masks-lts.Need-mask-requires (masks-claims t) (note-masks-at t) note-masks.Post
-note-masks-mask-requires t c κs = search needs
-
-note-masks-add-note-masks : (t : ℕ) → note-masks-lts.Need-add-note-masks (masks-claims t) (note-masks-at t) note-masks.Post
-note-masks-add-note-masks t c = search needs
-
-note-masks-note-masks-requires : (t : ℕ) → note-masks-lts.Need-note-masks-requires (masks-claims t) (note-masks-at t) note-masks.Post
-note-masks-note-masks-requires t c κs =
-    let s = c .before .before .before .before .before .before in
-    let p = s .pre .1 in
-    (omega (arith, s .pre .0), (p .0, p .1, p .2, omega arith, p .4, p .5))
-
-note-masks-same-length : (t : ℕ) → note-masks-lts.Need-same-length (masks-claims t) (note-masks-at t) note-masks.Post
-note-masks-same-length t c = search needs
-
-note-masks-returns-2 : (t : ℕ) → note-masks-lts.Need-returns-2 (masks-claims t) (note-masks-at t) note-masks.Post
-note-masks-returns-2 t c =
-    let s = c .before .before .before .before .before .before .before .before .before in
-    let p = s .pre .1 in
-    rw
-    (mask-skip (s .args .release) (s .args .chosen) (p .0) (s .args .at) (s .args .end) (omega arith) (p .4)
-    (λ e. c .before .before .before .before .if2 .taken (ap (λ m. bitAnd m (s .args .chosen .pattern)) (c .before .before .before .before .before .before .mask .ensures) ∙ e)))
-    (c .before .before .note-masks .ensures)
+note-masks-element-copy-out-m : (t : ℕ) → note-masks-lts.Need-element-copy-out-m (masks-claims t) (note-masks-at t) note-masks.Post
+note-masks-element-copy-out-m t c =
+    let p = c .before .before .before .pre .1 in
+    omega (arith, c .if1 .left, p .5, c .before .next-clear .ensures .within)
 
 note-masks-task-at-requires : (t : ℕ) → note-masks-lts.Need-task-at-requires (masks-claims t) (note-masks-at t) note-masks.Post
 note-masks-task-at-requires t c κs = search needs
 
 note-masks-with-mask-requires : (t : ℕ) → note-masks-lts.Need-with-mask-requires (masks-claims t) (note-masks-at t) note-masks.Post
 note-masks-with-mask-requires t c κs =
-    let s = c .before .before .before .before .before .before in
+    let s = c .before .before .before .before .before in
     let p = s .pre .1 in
-    (p .1, omega (arith, p .0 .tasks .count, p .0 .size), rw (c .before .before .before .mask .ensures) (mask-low (s .args .at) (omega arith)))
+    let k = c .before .before .before .next-clear .result in
+    let below : k < maskCount = omega (arith, c .before .before .if1 .left, p .5, c .before .before .before .next-clear .ensures .within) in (
+      p .2,
+      omega (arith, p .1 .tasks .count, p .1 .size),
+      subst (λ (l : List ℕ). getD l k 0 < maskCount) (sym (p .0)) (mask-low k below),
+    )
 
 note-masks-note-task-requires : (t : ℕ) → note-masks-lts.Need-note-task-requires (masks-claims t) (note-masks-at t) note-masks.Post
 note-masks-note-task-requires t c κs =
-    let s = c .before .before .before .before .before .before .before .before in
+    let s = c .before .before .before .before .before .before .before in
     let p = s .pre .1 in
     let w = c .before .with-mask .ensures in
     let next = ap (λ (x : Chosen). x .task) (w .0) in
-    (omega (arith, s .pre .0, next), (p .0, w .1, omega (arith, next, p .2), p .5))
+    (omega (arith, s .pre .0, next), (p .0, p .1, w .1, omega (arith, next, p .3), p .6))
 
-note-masks-add-note-masks-2 : (t : ℕ) → note-masks-lts.Need-add-note-masks-2 (masks-claims t) (note-masks-at t) note-masks.Post
-note-masks-add-note-masks-2 t c = search needs
+note-masks-add-note-masks : (t : ℕ) → note-masks-lts.Need-add-note-masks (masks-claims t) (note-masks-at t) note-masks.Post
+note-masks-add-note-masks t c =
+    let p = c .before .before .before .before .before .before .before .before .before .before .pre .1 in
+    omega (arith, p .5, c .before .before .before .before .before .before .before .before .next-clear .ensures .within)
 
-note-masks-note-masks-requires-2 : (t : ℕ) → note-masks-lts.Need-note-masks-requires-2 (masks-claims t) (note-masks-at t) note-masks.Post
-note-masks-note-masks-requires-2 t c κs =
-    let s = c .before .before .before .before .before .before .before .before .before .before .before .before in
+note-masks-note-masks-requires : (t : ℕ) → note-masks-lts.Need-note-masks-requires (masks-claims t) (note-masks-at t) note-masks.Post
+note-masks-note-masks-requires t c κs =
+    let s = c .before .before .before .before .before .before .before .before .before .before .before in
     let p = s .pre .1 in
-    (omega (arith, s .pre .0), (p .0, p .1, p .2, omega arith, p .4, c .before .before .before .note-task .ensures .room))
+    let found = c .before .before .before .before .before .before .before .before .before .next-clear .ensures in
+    let more = c .before .before .before .before .before .before .before .before .if1 .left in
+    (omega (arith, s .pre .0, found .from, found .within, more), (p .0, p .1, p .2, p .3, omega (arith, found .within, more), p .5, c .before .before .before .note-task .ensures .room))
 
-note-masks-same-length-2 : (t : ℕ) → note-masks-lts.Need-same-length-2 (masks-claims t) (note-masks-at t) note-masks.Post
-note-masks-same-length-2 t c = search needs
+note-masks-same-length : (t : ℕ) → note-masks-lts.Need-same-length (masks-claims t) (note-masks-at t) note-masks.Post
+note-masks-same-length t c = search needs
 
-note-masks-returns-3 : (t : ℕ) → note-masks-lts.Need-returns-3 (masks-claims t) (note-masks-at t) note-masks.Post
-note-masks-returns-3 t c =
-    let s = c .before .before .before .before .before .before .before .before .before .before .before .before .before .before .before in
+note-masks-returns-2 : (t : ℕ) → note-masks-lts.Need-returns-2 (masks-claims t) (note-masks-at t) note-masks.Post
+note-masks-returns-2 t c =
+    let s = c .before .before .before .before .before .before .before .before .before .before .before .before .before .before in
     let p = s .pre .1 in
     let a = s .args in
-    let mask = c .before .before .before .before .before .before .before .before .before .before .before .before .mask .ensures in
-    let next = c .before .before .before .before .before .before .before .before .with-mask .ensures .0 ∙ ap₂ (λ k m. chosenWith k (a .chosen) m) (c .before .before .before .before .before .before .before .before .before .task-at .ensures) mask in
+    let found = c .before .before .before .before .before .before .before .before .before .before .before .before .next-clear in
+    let k = found .result in
+    let below : k < a .end = omega (arith, c .before .before .before .before .before .before .before .before .before .before .before .if1 .left, found .ensures .within) in
+    let mask = ap (λ (l : List ℕ). getD l k 0) (p .0) in
+    let next = c .before .before .before .before .before .before .before .before .with-mask .ensures .0 ∙ ap₂ (λ (x : Task) (m : ℕ). chosenWith x (a .chosen) m) (c .before .before .before .before .before .before .before .before .before .task-at .ensures) mask in
     let first = c .before .before .before .before .before .before .note-task in
-    let second = c .before .before .note-masks2 in
-    rw
-    (mask-take (a .release) (a .chosen) (p .0) (a .at) (a .end) (omega (arith, p .3, c .before .before .before .before .before .before .before .before .before .before .before .before .before .if1 .left)) (p .4)
-    (ap (λ m. bitAnd m (a .chosen .pattern)) (sym mask) ∙ c .before .before .before .before .before .before .before .before .before .before .if2 .left))
-    (noting-append _ _ (a .memory .now) (a .count) (first .last .1 .1 .0) (first .result) (second .last .1 .1 .1 .1 .0) (second .result)
-    (subst (λ k. Noting (nextOutcomes (a .release) k) (a .memory .now) (a .count) (first .last .1 .1 .0) (first .result)) next (first .ensures))
+    let second = c .before .before .note-masks in
+    rw (mask-next (a .release) (a .chosen) (p .1) (a .at) (a .end) k (p .5) (found .ensures)
+    ∙ mask-take (a .release) (a .chosen) (p .1) k (a .end) below (p .5) (found .ensures .clear below))
+    (noting-append _ _ (a .memory .now) (a .count) (first .last .1 .1 .1 .0) (first .result) (second .last .1 .1 .1 .1 .1 .0) (second .result)
+    (subst (λ (x : Chosen). Noting (nextOutcomes (a .release) x) (a .memory .now) (a .count) (first .last .1 .1 .1 .0) (first .result)) next (first .ensures))
     (second .ensures))
 
 note-task-note-requires : (t : ℕ) → note-task-lts.Need-note-requires (task-claims t) (note-task-at t) note-task.Post
@@ -169,13 +166,13 @@ note-task-returns : (t : ℕ) → note-task-lts.Need-returns (task-claims t) (no
 note-task-returns t c =
     let s = c .before .before .before .before .before .before .before in
     let p = s .pre .1 in
-    rw (next-last (s .args .release) (s .args .chosen) (p .0) (c .before .before .before .before .if1 .taken)) (c .before .before .note .ensures)
+    rw (next-last (s .args .release) (s .args .chosen) (p .1) (c .before .before .before .before .if1 .taken)) (c .before .before .note .ensures)
 
 note-task-note-masks-requires : (t : ℕ) → note-task-lts.Need-note-masks-requires (task-claims t) (note-task-at t) note-task.Post
 note-task-note-masks-requires t c κs =
     let s = c .before .before .before .before in
     let p = s .pre .1 in
-    (omega (arith, s .pre .0), (p .0, p .1, omega arith, omega arith, omega arith, p .3))
+    (omega (arith, s .pre .0), (p .0, p .1, p .2, omega arith, omega arith, omega arith, p .4))
 
 note-task-is-released-requires : (t : ℕ) → note-task-lts.Need-is-released-requires (task-claims t) (note-task-at t) note-task.Post
 note-task-is-released-requires t c κs = search needs
@@ -188,7 +185,7 @@ note-task-returns-2 t c =
     let s = c .before .before .before .before .before .before .before .before .before in
     let p = s .pre .1 in
     rw
-    (next-idle (s .args .release) (s .args .chosen) (p .0) (omega arith) (sym (c .before .is-released .ensures) ∙ not-true (c .before .is-released .result) (c .if2 .taken)))
+    (next-idle (s .args .release) (s .args .chosen) (p .1) (omega arith) (sym (c .before .is-released .ensures) ∙ not-true (c .before .is-released .result) (c .if2 .taken)))
     (c .before .before .before .before .note-masks .ensures)
 
 note-task-task-at-requires : (t : ℕ) → note-task-lts.Need-task-at-requires (task-claims t) (note-task-at t) note-task.Post
@@ -204,7 +201,7 @@ note-task-group-start-requires : (t : ℕ) → note-task-lts.Need-group-start-re
 note-task-group-start-requires t c κs =
     let s = c .before .before .before .before .before .before .before .before .before .before .before .before in
     let p = s .pre .1 in
-    let range = task-range (s .args .release) (s .args .chosen) (p .0) (omega arith) in
+    let range = task-range (s .args .release) (s .args .chosen) (p .1) (omega arith) in
     let is = c .before .before .task-at .ensures in
     omega (arith, ap (λ (k : Task). k .work) is, ap (λ (k : Task). k .window) is, range .within, range .window)
 
@@ -212,7 +209,7 @@ note-task-group-end-requires : (t : ℕ) → note-task-lts.Need-group-end-requir
 note-task-group-end-requires t c κs =
     let s = c .before .before .before .before .before .before .before .before .before .before .before .before .before in
     let p = s .pre .1 in
-    let range = task-range (s .args .release) (s .args .chosen) (p .0) (omega arith) in
+    let range = task-range (s .args .release) (s .args .chosen) (p .1) (omega arith) in
     let is = c .before .before .before .task-at .ensures in
     omega (arith, ap (λ (k : Task). k .work) is, ap (λ (k : Task). k .window) is, range .within, range .window)
 
@@ -220,16 +217,16 @@ note-task-note-masks-requires-2 : (t : ℕ) → note-task-lts.Need-note-masks-re
 note-task-note-masks-requires-2 t c κs =
     let s = c .before .before .before .before .before .before .before .before .before .before .before .before .before .before .before in
     let p = s .pre .1 in
-    let range = task-range (s .args .release) (s .args .chosen) (p .0) (omega arith) in
+    let more = c .before .before .before .before .before .before .before .before .before .before .before .before .if1 .left in
+    let range = task-range (s .args .release) (s .args .chosen) (p .1) (omega (arith, p .3, more)) in
     let is = c .before .before .before .before .before .task-at .ensures in
     let task = c .before .before .before .before .before .task-at .result in
     let most : task .work ≤ maxWindow = omega (arith, ap (λ (k : Task). k .work) is, range .within, range .window) in
     let at = c .before .before .group-start .ensures in
     let end = c .before .group-end .ensures in
-    let low : c .before .group-end .result ≤ maskCount = rw end (group-end-low (task .work) _ most) in
-    let more = c .before .before .before .before .before .before .before .before .before .before .before .before .if1 .left in (
-      omega (arith, s .pre .0, low, p .2, more),
-      (p .0, p .1, omega (arith, p .2, more), omega (arith, at, end), low, c .before .before .before .before .before .before .before .before .before .before .note-masks .ensures .room),
+    let low : c .before .group-end .result ≤ maskCount = rw end (group-end-low (task .work) _ most) in (
+      omega (arith, s .pre .0, low, p .3, more),
+      (p .0, p .1, p .2, omega (arith, p .3, more), omega (arith, at, end), low, c .before .before .before .before .before .before .before .before .before .before .note-masks .ensures .room),
     )
 
 note-task-same-length-3 : (t : ℕ) → note-task-lts.Need-same-length-3 (task-claims t) (note-task-at t) note-task.Post
@@ -246,28 +243,25 @@ note-task-returns-3 t c =
     let first = c .before .before .before .before .before .before .before .before .before .before .before .before .before .note-masks in
     let second = c .before .before .note-masks2 in
     rw
-    (next-released (a .release) (a .chosen) (p .0) (omega (arith, p .2, c .before .before .before .before .before .before .before .before .before .before .before .before .before .before .before .if1 .left)) (sym (c .before .before .before .before .before .before .before .before .before .before .is-released .ensures) ∙ not-false (c .before .before .before .before .before .before .before .before .before .before .is-released .result) (c .before .before .before .before .before .before .before .before .before .if2 .left)))
-    (noting-append _ _ (a .memory .now) (a .count) (first .last .1 .1 .1 .1 .0) (first .result) (second .last .1 .1 .1 .1 .0) (second .result)
+    (next-released (a .release) (a .chosen) (p .1) (omega (arith, p .3, c .before .before .before .before .before .before .before .before .before .before .before .before .before .before .before .if1 .left)) (sym (c .before .before .before .before .before .before .before .before .before .before .is-released .ensures) ∙ not-false (c .before .before .before .before .before .before .before .before .before .before .is-released .result) (c .before .before .before .before .before .before .before .before .before .if2 .left)))
+    (noting-append _ _ (a .memory .now) (a .count) (first .last .1 .1 .1 .1 .1 .0) (first .result) (second .last .1 .1 .1 .1 .1 .0) (second .result)
     (first .ensures)
-    (subst (λ os. Noting os (first .last .1 .1 .1 .1 .0) (first .result) (second .last .1 .1 .1 .1 .0) (second .result)) (ap₂ (maskOutcomes (a .release) (a .chosen)) at end) (second .ensures)))
+    (subst (λ os. Noting os (first .last .1 .1 .1 .1 .1 .0) (first .result) (second .last .1 .1 .1 .1 .1 .0) (second .result)) (ap₂ (maskOutcomes (a .release) (a .chosen)) at end) (second .ensures)))
 
 pub +note-masks+note-task-spec : {M : Type 1} → statement M
 +note-masks+note-task-spec = close μ-note-masks μ-note-task (λ t. note-masks-lts.spec (masks-claims t)
     (note-masks-at t)
     note-masks.Post
+    (note-masks-next-clear-requires t)
     (note-masks-returns t)
-    (note-masks-mask-requires t)
-    (note-masks-add-note-masks t)
-    (note-masks-note-masks-requires t)
-    (note-masks-same-length t)
-    (note-masks-returns-2 t)
+    (note-masks-element-copy-out-m t)
     (note-masks-task-at-requires t)
     (note-masks-with-mask-requires t)
     (note-masks-note-task-requires t)
-    (note-masks-add-note-masks-2 t)
-    (note-masks-note-masks-requires-2 t)
-    (note-masks-same-length-2 t)
-    (note-masks-returns-3 t))
+    (note-masks-add-note-masks t)
+    (note-masks-note-masks-requires t)
+    (note-masks-same-length t)
+    (note-masks-returns-2 t))
     λ t. note-task-lts.spec (task-claims t)
     (note-task-at t)
     note-task.Post
