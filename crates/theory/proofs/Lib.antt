@@ -22,3 +22,4 @@ pub mod Form
 pub mod Reread
 pub mod Solved
 pub mod Long
+pub mod Tree
