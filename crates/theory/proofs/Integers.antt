@@ -1,12 +1,12 @@
 -- Facts about integers that the other files use.
 -- Assumes nothing.
-use mathlib.Core.Path.{_≡_, subst}
+use mathlib.Core.Path.{_≡_, refl, subst}
 use mathlib.Core.Bool.{false}
 use mathlib.Core.Logic.{_⊎_, inl, inr}
 use Prim.Native.Nat.{ℕ, _+_, _≤_}
 use native.Mathlib.Decide.{decLe}
 use native.Mathlib.Omega.{arith}
-use lib.IntN.{ℤ, pos, _+ℤ_, _-ℤ_, natAbs}
+use lib.IntN.{ℤ, pos, negsuc, _+ℤ_, _-ℤ_, natAbs}
 use lib.Signed.{leZ, _≤ℤ_}
 use Rattle.words.proofs.Signed.{up, dn, up-add, up-sub, up-or-dn, nat-eq, natAbs-is, leZ-iff, ≤ℤ-iff}
 use Rattle.model.proofs.Tests.{fails}
@@ -55,3 +55,8 @@ cheaper w a b y z h e k =
 -- what is added to z and gives no less than z is not below 0
 pub not-less : (z w : ℤ) → z ≤ℤ (z +ℤ w) → pos 0 ≤ℤ w
 not-less z w h = ≤ℤ-iff (pos 0) w .1 (omega (arith, ≤ℤ-iff z (z +ℤ w) .0 h, up-add z w))
+
+-- what is not below 0 is nothing below 0
+pub dn-none : (z : ℤ) → pos 0 ≤ℤ z → dn z ≡ 0
+dn-none (pos n) h = refl
+dn-none (negsuc n) h = absurd (h .le)

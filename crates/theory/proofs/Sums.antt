@@ -1,8 +1,9 @@
 -- Laws of the sum of f 0 to f (n − 1).
 -- Assumes nothing.
-use mathlib.Core.Path.{_≡_, refl, _∙_, ap, ap₂}
+use mathlib.Core.Path.{_≡_, refl, sym, _∙_, ap, ap₂, subst}
 use Prim.Native.Nat.{ℕ, zero, suc, _+_, _<_, _≤_}
-use native.Mathlib.Nat.{add-zero, add-suc}
+use native.Mathlib.Nat.{add-zero, add-suc, not-suc-le-zero}
+use native.Mathlib.Decide.{ℕ-discrete}
 use native.Mathlib.Omega.{arith}
 use Rattle.model.specs.Lists.{sum}
 
@@ -25,3 +26,13 @@ sum-head f (suc n) = omega (arith, sum-head f n)
 pub sum-past : (f : ℕ → ℕ) (m n : ℕ) → ((k : ℕ) → m ≤ k → f k ≡ 0) → sum f (m + n) ≡ sum f m
 sum-past f m zero h = ap (sum f) (add-zero m)
 sum-past f m (suc n) h = ap (sum f) (add-suc m n) ∙ omega (arith, sum-past f m n h, h (m + n) (omega arith))
+
+-- a sum of the same numbers but for one that is smaller is smaller
+pub sum-less : (f g : ℕ → ℕ) (n v : ℕ) → v < n → ((k : ℕ) → k < n → (k ≡ v → ⊥) → f k ≡ g k) → f v < g v → sum f n < sum g n
+sum-less f g zero v h s l = absurd (not-suc-le-zero h)
+sum-less f g (suc n) v h s l = by (ℕ-discrete v n) (λ b. sum-less f g n v b (λ k j. s k (omega arith)) l)
+  where
+    by : Dec (v ≡ n) → (v < n → sum f n < sum g n) → sum f (suc n) < sum g (suc n)
+    by (yes p) r =
+        omega (arith, sum-same f g n (λ k j. s k (omega arith) (λ e. absurd (omega arith))), subst (λ (k : ℕ). f k < g k) p l)
+    by (no q) r = omega (arith, r (omega arith), s n (omega arith) (λ e. q (sym e)))

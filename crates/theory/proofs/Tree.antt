@@ -1,21 +1,23 @@
 -- The tree of parents by which distances from node 0 are found, about plain functions of numbers.
 -- Assumes nothing.
-use mathlib.Core.Path.{_≡_, refl, sym, _∙_, ap, subst, subst₂}
-use mathlib.Core.Bool.{Bool, true, cond}
+use mathlib.Core.Path.{_≡_, refl, sym, _∙_, ap, ap₂, subst, subst₂}
+use mathlib.Core.Bool.{Bool, true, false, cond}
 use mathlib.Core.Logic.{⊎-elim}
 use mathlib.Core.List.{List, [], _∷_, List·Memᴰ, List·Memᴰ·not-nil, List·Memᴰ·cases-cons}
-use Prim.Native.Nat.{ℕ, zero, suc, _+_, _-_, _<_, _≤_}
-use native.Mathlib.Nat.{zero-add, suc-add, not-suc-le-zero}
+use Prim.Native.Nat.{ℕ, zero, suc, _+_, _-_, _*_, _<_, _≤_}
+use native.Mathlib.Nat.{zero-add, suc-add, suc-mul, mul-le-mul-right, not-suc-le-zero}
 use native.Mathlib.Decide.{decLe, ℕ-discrete}
 use native.Mathlib.Omega.{arith}
-use lib.IntN.{ℤ, pos, _+ℤ_, +ℤ-idl, +ℤ-idr, +ℤ-assoc}
+use lib.IntN.{ℤ, pos, natAbs, _+ℤ_, +ℤ-idl, +ℤ-idr, +ℤ-assoc}
 use lib.Dec.{eqb}
 use lib.ListN.{length}
 use lib.Signed.{_≤ℤ_, _<ℤ_, ≤ℤ-refl}
 use borrow.Author.Tests.{eq-eqb, ne-eqb}
-use Rattle.model.specs.Lists.{upFrom}
+use Rattle.model.specs.Lists.{upFrom, sum}
 use Rattle.model.proofs.Lists.{length-upFrom, mem-upFrom}
-use Rattle.words.proofs.Signed.{up-add, ≤ℤ-iff, <ℤ-iff, ≤ℤ-trans, ≤ℤ-antisymm, +ℤ-mono}
+use Rattle.words.proofs.Signed.{up-add, natAbs-is, ≤ℤ-iff, <ℤ-iff, ≤ℤ-trans, ≤ℤ-antisymm, +ℤ-mono}
+use Rattle.theory.proofs.Integers.{dn-none}
+use Rattle.theory.proofs.Sums.{sum-less}
 use Rattle.theory.proofs.Distinct.{Distinct, distinct-le}
 
 -- the number reached from v by k steps to the parent
@@ -162,6 +164,10 @@ module _ (Link : ℕ → ℕ → ℤ → Type 0) where
   Settled n known dist = (u v : ℕ) (w : ℤ) → u < n → v < n → known u ≡ true → Link u v w →
       (known v ≡ true) × (dist v ≤ℤ (dist u +ℤ w))
 
+  -- no link has a weight below −c
+  abbrev pub NoLighter : ℕ → ℕ → Type 0
+  NoLighter n c = (u v : ℕ) (w : ℤ) → u < n → v < n → Link u v w → pos 0 ≤ℤ (w +ℤ pos c)
+
   -- at the start only 0 is known
   pub tree-start : (n : ℕ) (known : ℕ → Bool) (dist : ℕ → ℤ) (parent : ℕ → ℕ) → known 0 ≡ true → dist 0 ≡ pos 0 →
       ((v : ℕ) → v < n → known v ≡ true → v ≡ 0) → Tree n known dist parent
@@ -189,9 +195,9 @@ module _ (Link : ℕ → ℕ → ℤ → Type 0) where
       pub more : Settled n known dist → dist v ≤ℤ (dist (above parent j v) +ℤ total)
 
     -- a link after the way down to the parent
-    down-go : (j v : ℕ) (w : ℤ) → v < n → known v ≡ true → parent v < n → known (parent v) ≡ true → Link (parent v) v w →
+    down-go : (j v : ℕ) (w : ℤ) → v < n → parent v < n → known (parent v) ≡ true → Link (parent v) v w →
         (dist (parent v) +ℤ w) ≤ℤ dist v → Down j (parent v) → Down (suc j) v
-    down-go j v w h e h′ e′ l s d =
+    down-go j v w h h′ e′ l s d =
         let a = dist (above parent j (parent v)) in
         let p = dist (parent v) in record {
           total = d .total +ℤ w;
@@ -225,7 +231,7 @@ module _ (Link : ℕ → ℕ → ℤ → Type 0) where
     }
     tree-down (suc j) v h e b =
         let l = t .link v h e (b 0 (omega arith)) in
-        down-go j v (l .2) h e (l .0) (l .1) (l .3) (l .4) (tree-down j (parent v) (l .0) (l .1) (before-up parent 0 j v b))
+        down-go j v (l .2) h (l .0) (l .1) (l .3) (l .4) (tree-down j (parent v) (l .0) (l .1) (before-up parent 0 j v b))
 
     -- the first 0 on the way up is fewer than n steps away
     pub tree-first : (v : ℕ) → v < n → known v ≡ true → (k : ℕ) × (k < n) × (above parent k v ≡ 0) × Before parent 0 k v
@@ -248,6 +254,10 @@ module _ (Link : ℕ → ℕ → ℤ → Type 0) where
         by f (yes l) = omega (arith, f .1)
         by f (no l) = absurd (b (f .0) (omega arith) (f .2))
 
+    -- a sum from the distance of 0
+    from-zero : (x : ℕ) (z : ℤ) → x ≡ 0 → dist x +ℤ z ≡ z
+    from-zero x z e = ap (λ y. y +ℤ z) (ap dist e ∙ t .zero-at) ∙ +ℤ-idl z
+
     -- a known number has a path of fewer than n links that is no longer than its distance
     pub tree-path : (v : ℕ) → v < n → known v ≡ true → (m : ℕ) × (z : ℤ) × (m < n) × Path 0 v m z × (z ≤ℤ dist v)
     tree-path v h e =
@@ -257,7 +267,7 @@ module _ (Link : ℕ → ℕ → ℤ → Type 0) where
           d .total,
           f .1,
           subst (λ (x : ℕ). Path x v (f .0) (d .total)) (f .2) (d .path),
-          subst (λ z. z ≤ℤ dist v) (ap (λ z. z +ℤ d .total) (ap dist (f .2) ∙ t .zero-at) ∙ +ℤ-idl (d .total)) (d .less),
+          subst (λ z. z ≤ℤ dist v) (from-zero (above parent (f .0) v) (d .total) (f .2)) (d .less),
         )
 
     -- where all is settled, a path that is as long as its distance
@@ -265,8 +275,8 @@ module _ (Link : ℕ → ℕ → ℤ → Type 0) where
     tree-settled c v h e =
         let f = tree-first v h e in
         let d = tree-down (f .0) v h e (f .3) in
-        let from-zero = ap (λ z. z +ℤ d .total) (ap dist (f .2) ∙ t .zero-at) ∙ +ℤ-idl (d .total) in
-        let same : d .total ≡ dist v = sym from-zero ∙ ≤ℤ-antisymm (d .less) (d .more c) in
+        let same : d .total ≡ dist v =
+        sym (from-zero (above parent (f .0) v) (d .total) (f .2)) ∙ ≤ℤ-antisymm (d .less) (d .more c) in
         (f .0, f .1, subst₂ (λ (x : ℕ) z. Path x v (f .0) z) (f .2) same (d .path))
 
     -- a link to a smaller distance, from a number below in the tree, closes a cycle of at most n links that costs less than 0
@@ -289,6 +299,45 @@ module _ (Link : ℕ → ℕ → ℤ → Type 0) where
               )),
           tree-short j u h e b,
         )
+
+    -- where no weight is below −c, a distance falls by at most c a step
+    tree-fall : (c : ℕ) → NoLighter n c → (j v : ℕ) → v < n → known v ≡ true → Before parent 0 j v →
+        dist (above parent j v) ≤ℤ (dist v +ℤ pos (j * c))
+    tree-fall c light zero v h e b =
+        ≤ℤ-iff (dist v) (dist v +ℤ pos (0 * c)) .1 (omega (arith, up-add (dist v) (pos (0 * c))))
+    tree-fall c light (suc j) v h e b =
+        let l = t .link v h e (b 0 (omega arith)) in
+        let a = dist (above parent j (parent v)) in
+        let p = dist (parent v) in
+        let later = tree-fall c light j (parent v) (l .0) (l .1) (before-up parent 0 j v b) in
+        ≤ℤ-iff a (dist v +ℤ pos (suc j * c)) .1
+        (omega (
+          arith,
+          up-add (dist v) (pos (suc j * c)),
+          suc-mul j c,
+          up-add p (pos (j * c)),
+          up-add p (l .2),
+          up-add (l .2) (pos c),
+          ≤ℤ-iff a (p +ℤ pos (j * c)) .0 later,
+          ≤ℤ-iff (p +ℤ l .2) (dist v) .0 (l .4),
+          ≤ℤ-iff (pos 0) (l .2 +ℤ pos c) .0 (light (parent v) v (l .2) (l .0) h (l .3)),
+        ))
+
+    -- so it is not below −n × c
+    pub tree-least : (c : ℕ) → NoLighter n c → (v : ℕ) → v < n → known v ≡ true → pos 0 ≤ℤ (dist v +ℤ pos (n * c))
+    tree-least c light v h e =
+        let f = tree-first v h e in
+        let fall : pos 0 ≤ℤ (dist v +ℤ pos (f .0 * c)) =
+        subst (λ z. z ≤ℤ (dist v +ℤ pos (f .0 * c))) (ap dist (f .2) ∙ t .zero-at) (tree-fall c light (f .0) v h e (f .3)) in
+        let more : f .0 * c ≤ n * c = mul-le-mul-right c (omega (arith, f .1)) in
+        ≤ℤ-iff (pos 0) (dist v +ℤ pos (n * c)) .1
+        (omega (
+          arith,
+          more,
+          up-add (dist v) (pos (n * c)),
+          up-add (dist v) (pos (f .0 * c)),
+          ≤ℤ-iff (pos 0) (dist v +ℤ pos (f .0 * c)) .0 fall,
+        ))
 
     module _ (u v k : ℕ) (w : ℤ) (below : u < n) (is-known : known u ≡ true) (apart : v ≡ 0 → ⊥) (l : Link u v w)
         (top : above parent k u ≡ 0) (b : Before parent v k u) (no-more : known v ≡ true → (dist u +ℤ w) ≤ℤ dist v) where
@@ -374,3 +423,28 @@ module _ (Link : ℕ → ℕ → ℤ → Type 0) where
           rooted-of x h e (no o) =
               let was = t .rooted x h (sym (changed-off known v true x o) ∙ e) in
               rooted-changed parent v u k top b (was .0) x (was .1)
+
+-- what a number adds to the measure: how far its distance is above −b, and more than any while it is unknown
+abbrev pub share : ℕ → Bool → ℤ → ℕ
+share b k z = cond k (natAbs (z +ℤ pos b)) (2 * b + 1)
+
+-- the measure of a search with distances from −b to b
+abbrev pub left : ℕ → ℕ → (ℕ → Bool) → (ℕ → ℤ) → ℕ
+left b n known dist = sum (λ v. share b (known v) (dist v)) n
+
+-- a distance from −b to b is a smaller share than an unknown number's and a greater distance's
+share-less : (b : ℕ) (k : Bool) (y z : ℤ) → pos 0 ≤ℤ (z +ℤ pos b) → z ≤ℤ pos b → (k ≡ true → z <ℤ y) → share b true z < share b k y
+share-less b true y z low high less =
+    omega
+    (arith, dn-none (z +ℤ pos b) low, natAbs-is (z +ℤ pos b), natAbs-is (y +ℤ pos b), up-add z (pos b), up-add y (pos b), <ℤ-iff z y .0 (less refl))
+share-less b false y z low high less =
+    omega (arith, dn-none (z +ℤ pos b) low, natAbs-is (z +ℤ pos b), up-add z (pos b), ≤ℤ-iff z (pos b) .0 high)
+
+-- a number that becomes known, or whose distance becomes smaller, makes the measure smaller
+pub left-less : (b n : ℕ) (known : ℕ → Bool) (dist : ℕ → ℤ) (v : ℕ) (z : ℤ) → v < n → pos 0 ≤ℤ (z +ℤ pos b) → z ≤ℤ pos b →
+    (known v ≡ true → z <ℤ dist v) → left b n (changed known v true) (changed dist v z) < left b n known dist
+left-less b n known dist v z h low high less =
+    sum-less (λ x. share b (changed known v true x) (changed dist v z x)) (λ x. share b (known x) (dist x)) n v h
+    (λ k j q. ap₂ (share b) (changed-off known v true k q) (changed-off dist v z k q))
+    (subst (λ (s : ℕ). s < share b (known v) (dist v)) (sym (ap₂ (share b) (changed-at known v true v refl) (changed-at dist v z v refl)))
+    (share-less b (known v) (dist v) z low high less))
