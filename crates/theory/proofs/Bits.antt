@@ -142,7 +142,7 @@ fromBits f zero = 0
 fromBits f (suc n) = one (f 0) + fromBits (λ k. f (suc k)) n * 2
 
 -- one is a digit
-one-lt : (b : Bool) → one b < 2
+pub one-lt : (b : Bool) → one b < 2
 one-lt true = omega arith
 one-lt false = omega arith
 

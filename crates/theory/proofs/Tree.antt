@@ -13,11 +13,12 @@ use lib.Dec.{eqb}
 use lib.ListN.{length}
 use lib.Signed.{_≤ℤ_, _<ℤ_, ≤ℤ-refl}
 use borrow.Author.Tests.{eq-eqb, ne-eqb}
-use Rattle.model.specs.Lists.{upFrom, sum}
+use Rattle.model.specs.Lists.{upFrom, sum, one}
 use Rattle.model.proofs.Lists.{length-upFrom, mem-upFrom}
 use Rattle.words.proofs.Signed.{up-add, natAbs-is, ≤ℤ-iff, <ℤ-iff, ≤ℤ-trans, ≤ℤ-antisymm, +ℤ-mono}
 use Rattle.theory.proofs.Integers.{dn-none}
-use Rattle.theory.proofs.Sums.{sum-less}
+use Rattle.theory.proofs.Sums.{sum-same, sum-less}
+use Rattle.theory.proofs.Bits.{one-lt}
 use Rattle.theory.proofs.Distinct.{Distinct, distinct-le}
 
 -- the number reached from v by k steps to the parent
@@ -113,16 +114,17 @@ module _ (parent : ℕ → ℕ) where
     way-distinct k (parent v) e (before-up 0 k v b),
   )
 
-  -- another parent of v changes no way up before it
-  above-changed : (v u k x : ℕ) → Before parent v k x → above (changed parent v u) k x ≡ above parent k x
-  above-changed v u zero x b = refl
-  above-changed v u (suc k) x b =
-      ap (above (changed parent v u) k) (changed-off parent v u x (b 0 (omega arith)))
-      ∙ above-changed v u k (parent x) (before-up v k x b)
+  -- a way up with the same parents is the same
+  above-same : (parent′ : ℕ → ℕ) (k v : ℕ) → ((i : ℕ) → i < k → parent′ (above parent i v) ≡ parent (above parent i v)) →
+      above parent′ k v ≡ above parent k v
+  above-same parent′ zero v s = refl
+  above-same parent′ (suc k) v s =
+      ap (above parent′ k) (s 0 (omega arith)) ∙ above-same parent′ k (parent v) (λ i h. s (suc i) (omega arith))
 
   -- so v comes to 0 by its new parent
   rooted-at : (v u k : ℕ) → above parent k u ≡ 0 → Before parent v k u → (x : ℕ) → x ≡ v → above (changed parent v u) (suc k) x ≡ 0
-  rooted-at v u k e b x p = ap (above (changed parent v u) k) (changed-at parent v u x p) ∙ above-changed v u k u b ∙ e
+  rooted-at v u k e b x p = ap (above (changed parent v u) k) (changed-at parent v u x p)
+      ∙ above-same (changed parent v u) k u (λ i h. changed-off parent v u (above parent i u) (b i h)) ∙ e
 
   -- and a way up to 0 still comes there, if the new parent's does without v
   rooted-changed : (v u k : ℕ) → above parent k u ≡ 0 → Before parent v k u → (m x : ℕ) → above parent m x ≡ 0 →
@@ -339,6 +341,29 @@ module _ (Link : ℕ → ℕ → ℤ → Type 0) where
           ≤ℤ-iff (pos 0) (dist v +ℤ pos (f .0 * c)) .0 fall,
         ))
 
+    -- functions that are the same below n are the same tree
+    pub tree-same : (known′ : ℕ → Bool) (dist′ : ℕ → ℤ) (parent′ : ℕ → ℕ) → 0 < n → ((x : ℕ) → x < n → known′ x ≡ known x) →
+        ((x : ℕ) → x < n → dist′ x ≡ dist x) → ((x : ℕ) → x < n → parent′ x ≡ parent x) → Tree n known′ dist′ parent′
+    tree-same known′ dist′ parent′ some k d p = record {
+      root = k 0 some ∙ t .root;
+      zero-at = d 0 some ∙ t .zero-at;
+      link = λ v h e q.
+          let was = t .link v h (sym (k v h) ∙ e) q in (
+            subst (λ (y : ℕ). y < n) (sym (p v h)) (was .0),
+            ap known′ (p v h) ∙ k (parent v) (was .0) ∙ was .1,
+            was .2,
+            subst (λ (y : ℕ). Link y v (was .2)) (sym (p v h)) (was .3),
+            subst₂ (λ y z. (y +ℤ was .2) ≤ℤ z) (sym (ap dist′ (p v h) ∙ d (parent v) (was .0))) (sym (d v h)) (was .4),
+          );
+      rooted = λ v h e.
+          let e′ : known v ≡ true = sym (k v h) ∙ e in
+          let f = tree-first v h e′ in (
+            f .0,
+            above-same parent parent′ (f .0) v
+                (λ i l. p (above parent i v) (tree-way i v h e′ (λ j m. f .3 j (omega arith)) .0)) ∙ f .2,
+          );
+    }
+
     module _ (u v k : ℕ) (w : ℤ) (below : u < n) (is-known : known u ≡ true) (apart : v ≡ 0 → ⊥) (l : Link u v w)
         (top : above parent k u ≡ 0) (b : Before parent v k u) (no-more : known v ≡ true → (dist u +ℤ w) ≤ℤ dist v) where
       abbrev known′ : ℕ → Bool
@@ -448,3 +473,74 @@ left-less b n known dist v z h low high less =
     (λ k j q. ap₂ (share b) (changed-off known v true k q) (changed-off dist v z k q))
     (subst (λ (s : ℕ). s < share b (known v) (dist v)) (sym (ap₂ (share b) (changed-at known v true v refl) (changed-at dist v z v refl)))
     (share-less b (known v) (dist v) z low high less))
+
+-- how many of the first n numbers are known
+abbrev pub count : ℕ → (ℕ → Bool) → ℕ
+count n known = sum (λ x. one (known x)) n
+
+count-most : (n : ℕ) (known : ℕ → Bool) → count n known ≤ n
+count-most zero known = omega arith
+count-most (suc n) known = omega (arith, count-most n known, one-lt (known n))
+
+-- a number that is known already adds nothing
+count-same : (n : ℕ) (known : ℕ → Bool) (v : ℕ) → known v ≡ true → count n (changed known v true) ≡ count n known
+count-same n known v e =
+    sum-same (λ x. one (changed known v true x)) (λ x. one (known x)) n (λ x h. ap one (by x (ℕ-discrete x v)))
+  where
+    by : (x : ℕ) → Dec (x ≡ v) → changed known v true x ≡ known x
+    by x (yes p) = changed-at known v true x p ∙ sym (ap known p ∙ e)
+    by x (no q) = changed-off known v true x q
+
+-- another one does
+count-more : (n : ℕ) (known : ℕ → Bool) (v : ℕ) → v < n → known v ≡ false → count n known < count n (changed known v true)
+count-more n known v h e =
+    sum-less (λ x. one (known x)) (λ x. one (changed known v true x)) n v h (λ x l q. ap one (sym (changed-off known v true x q)))
+    (omega (arith, ap one e, ap one (changed-at known v true v refl)))
+
+-- no known number's distance is above c for each number known
+abbrev pub High : ℕ → ℕ → (ℕ → Bool) → (ℕ → ℤ) → Type 0
+High n c known dist = (v : ℕ) → v < n → known v ≡ true → dist v ≤ℤ pos (count n known * c)
+
+-- at the start
+pub high-start : (n c : ℕ) (known : ℕ → Bool) (dist : ℕ → ℤ) → dist 0 ≡ pos 0 → ((v : ℕ) → v < n → known v ≡ true → v ≡ 0) →
+    High n c known dist
+high-start n c known dist d only v h e =
+    subst (λ z. z ≤ℤ pos (count n known * c)) (sym (ap dist (only v h e) ∙ d)) (≤ℤ-iff (pos 0) (pos (count n known * c)) .1 (omega arith))
+
+-- so none is above n × c
+pub high-most : (n c : ℕ) (known : ℕ → Bool) (dist : ℕ → ℤ) → High n c known dist → (v : ℕ) → v < n → known v ≡ true →
+    dist v ≤ℤ pos (n * c)
+high-most n c known dist g v h e = ≤ℤ-trans (g v h e) (≤ℤ-iff (pos (count n known * c)) (pos (n * c)) .1
+    (omega (arith, mul-le-mul-right c (count-most n known))))
+
+-- after a link of a weight of at most c that gives v no greater distance
+pub high-relax : (n c : ℕ) (known : ℕ → Bool) (dist : ℕ → ℤ) → High n c known dist → (u v : ℕ) (w : ℤ) → u < n → v < n → known u ≡ true →
+    w ≤ℤ pos c → (known v ≡ true → (dist u +ℤ w) ≤ℤ dist v) → High n c (changed known v true) (changed dist v (dist u +ℤ w))
+high-relax n c known dist g u v w hu hv eu small less x h e = by (known v) refl (ℕ-discrete x v)
+  where
+    m : ℕ
+    m = count n known
+
+    m′ : ℕ
+    m′ = count n (changed known v true)
+
+    grown : (y : ℤ) → m ≤ m′ → y ≤ℤ pos (m * c) → y ≤ℤ pos (m′ * c)
+    grown y l k = ≤ℤ-trans k (≤ℤ-iff (pos (m * c)) (pos (m′ * c)) .1 (omega (arith, mul-le-mul-right c l)))
+
+    at-v : x ≡ v → (dist u +ℤ w) ≤ℤ pos (m′ * c) → changed dist v (dist u +ℤ w) x ≤ℤ pos (m′ * c)
+    at-v p k = subst (λ z. z ≤ℤ pos (m′ * c)) (sym (changed-at dist v (dist u +ℤ w) x p)) k
+
+    off-v : (x ≡ v → ⊥) → m ≤ m′ → changed dist v (dist u +ℤ w) x ≤ℤ pos (m′ * c)
+    off-v q l =
+        subst (λ z. z ≤ℤ pos (m′ * c)) (sym (changed-off dist v (dist u +ℤ w) x q))
+        (grown (dist x) l (g x h (sym (changed-off known v true x q) ∙ e)))
+
+    by : (b : Bool) → known v ≡ b → Dec (x ≡ v) → changed dist v (dist u +ℤ w) x ≤ℤ pos (m′ * c)
+    by true k (yes p) =
+        at-v p (grown (dist u +ℤ w) (omega (arith, count-same n known v k)) (≤ℤ-trans (less k) (g v hv k)))
+    by false k (yes p) =
+        let more : suc m * c ≤ m′ * c = mul-le-mul-right c (count-more n known v hv k) in
+        at-v p (≤ℤ-iff (dist u +ℤ w) (pos (m′ * c)) .1
+        (omega (arith, more, suc-mul m c, up-add (dist u) w, ≤ℤ-iff w (pos c) .0 small, ≤ℤ-iff (dist u) (pos (m * c)) .0 (g u hu eu))))
+    by true k (no q) = off-v q (omega (arith, count-same n known v k))
+    by false k (no q) = off-v q (omega (arith, count-more n known v hv k))
