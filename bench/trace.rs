@@ -1,4 +1,5 @@
-// Times the proved trace call beside a plain Rust version of the same rule, over the same input in one run.
+// Times the proved trace call beside a plain Rust version of the same rule, over the same input in one run: the best of many
+// rounds of each.
 mod plain;
 use plain::{slot, Task};
 use std::time::Instant;
@@ -18,6 +19,13 @@ fn plain_trace(tasks: &[Task], policy: u8, labels: &[u8], out: &mut [u8]) -> usi
     3 * labels.len()
 }
 
+// Keeps the best time a slot.
+fn timed(best: &mut f64, slots: usize, run: impl FnOnce()) {
+    let start = Instant::now();
+    run();
+    *best = best.min(start.elapsed().as_nanos() as f64 / slots as f64);
+}
+
 fn main() {
     let tasks = [(2, 8, 5), (3, 8, 7), (1, 8, 11), (4, 8, 13)].map(|(work, window, value)| Task { work, window, value });
     let labels = [15u8; 4096];
@@ -30,18 +38,16 @@ fn main() {
         plan.extend([2, policy, 3, 1, 4, 0, 15, 0, 5]);
         let mut a = vec![0u8; 12288];
         let mut b = vec![0u8; 12288];
-        let start = Instant::now();
-        let mut proved = 0;
+        let (mut ours, mut theirs) = (f64::MAX, f64::MAX);
+        let (mut proved, mut written) = (0, 0);
         for _ in 0..rounds {
-            proved = unsafe { jovnetal_trace(plan.as_ptr(), plan.len(), labels.as_ptr(), labels.len(), a.as_mut_ptr(), a.len()) };
+            timed(&mut ours, labels.len(), || {
+                proved = unsafe { jovnetal_trace(plan.as_ptr(), plan.len(), labels.as_ptr(), labels.len(), a.as_mut_ptr(), a.len()) };
+            });
+            timed(&mut theirs, labels.len(), || {
+                written = plain_trace(std::hint::black_box(&tasks), policy, std::hint::black_box(&labels), &mut b);
+            });
         }
-        let ours = start.elapsed().as_nanos() as f64 / (rounds * labels.len()) as f64;
-        let start = Instant::now();
-        let mut written = 0;
-        for _ in 0..rounds {
-            written = plain_trace(std::hint::black_box(&tasks), policy, std::hint::black_box(&labels), &mut b);
-        }
-        let theirs = start.elapsed().as_nanos() as f64 / (rounds * labels.len()) as f64;
         assert_eq!(proved as usize, written);
         assert_eq!(a, b);
         println!("policy {policy}: proved {ours:.1} ns a slot, plain Rust {theirs:.1} ns, ratio {:.2}", ours / theirs);
