@@ -33,12 +33,19 @@ pub fn next_clear(table: &[u8; COUNT], at: usize, end: usize, pattern: u8) -> us
     end
 }
 
+// x, at a wider type.
+fn wide(x: u16) -> usize
+    ensures { λ r. ⌜ r ≡ x ⌝ }
+{
+    x as usize
+}
+
 // Where the group of c ones starts.
 pub fn group_start(c: usize) -> usize
     requires { ⌜ c ≤ suc maxWindow ⌝ }
     ensures { λ r. ⌜ r ≡ groupStart c ⌝ }
 {
-    STARTS[c]
+    wide(STARTS[c])
 }
 
 // Where the part of the group of c ones that lies below bit `window` ends.
@@ -47,7 +54,7 @@ pub fn group_end(c: usize, window: usize) -> usize
     ensures { λ r. ⌜ r ≡ groupStart c + length (keep (λ m. ltb m (2 ^ window)) (group c)) ⌝ }
 {
     let row = ENDS[c];
-    row[window]
+    wide(row[window])
 }
 
 // All 256 masks, grouped by their count of ones, upward in each group.
@@ -311,10 +318,10 @@ const MASKS: [u8; COUNT] = [
 ];
 
 // Where the group of c ones starts in the table; at 9, the table's length.
-const STARTS: [usize; 10] = [0, 1, 9, 37, 93, 163, 219, 247, 255, 256];
+const STARTS: [u16; 10] = [0, 1, 9, 37, 93, 163, 219, 247, 255, 256];
 
 // Row c, at `window`: where the masks of c ones below bit `window` end in the table.
-const ENDS: [[usize; 9]; 9] = [
+const ENDS: [[u16; 9]; 9] = [
     [1, 1, 1, 1, 1, 1, 1, 1, 1],
     [1, 2, 3, 4, 5, 6, 7, 8, 9],
     [9, 9, 10, 12, 15, 19, 24, 30, 37],

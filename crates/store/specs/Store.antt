@@ -2,18 +2,18 @@
 use mathlib.Core.Path.{_≡_}
 use mathlib.Core.Bool.{cond}
 use mathlib.Core.List.{List, [], _∷_, _++_, map, foldl}
-use Prim.Native.Nat.{ℕ, zero, suc, _+_, _*_, _%_, _<_, _≤_}
+use Prim.Native.Nat.{ℕ, zero, suc, _+_, _-_, _*_, _%_, _<_, _≤_}
 use lib.Dec.{eqb, ltb}
 use lib.ListN.{length, getD, drop}
 use Rattle.model.specs.Bytes.{number, part}
-use Rattle.model.specs.Limits.{maxNodes}
+use Rattle.model.specs.Limits.{maxTasks, maxWindow, maxNodes}
 use Rattle.model.specs.Lists.{upFrom, sameNumbers}
 use Rattle.store.specs.declared.Found.{Found}
 use Rattle.store.specs.declared.Found.the-variants.{Full, At}
 
--- the bytes of a row, the most rows, and the number of hashes
+-- the bytes of a row, a node's cells, its pattern and its state; the most rows, and the number of hashes
 abbrev pub rowBytes : ℕ
-rowBytes = 30
+rowBytes = maxTasks * (maxWindow - 1) + 2
 
 abbrev pub maxRows : ℕ
 maxRows = maxNodes

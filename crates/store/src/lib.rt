@@ -6,8 +6,8 @@ ghost use Rattle.model.specs.Bytes.{bytes, overwrite};
 ghost use Rattle.model.specs.Lists.{sameNumbers};
 ghost use Rattle.store.specs.Store.{rowBytes, maxRows, hashes, storeBytes, rowAt, rowsIn, indexIn, Distinct, hashOf, entryAt, Indexed, Cleared, Appended, Kept};
 
-// The bytes of a row, the most rows, and the number of hashes.
-pub const ROW_BYTES: usize = 30;
+// The bytes of a row, a node's cells, its pattern and its state; the most rows, and the number of hashes.
+pub const ROW_BYTES: usize = limits::MAX_TASKS * (limits::MAX_WINDOW - 1) + 2;
 
 pub const MAX_ROWS: usize = limits::MAX_NODES;
 

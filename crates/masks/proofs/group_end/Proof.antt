@@ -19,11 +19,14 @@ mul-row c = search needs
 array-copy-out-row : tie.Need-array-copy-out-row
 array-copy-out-row c = search needs
 
-mul-result : tie.Need-mul-result
-mul-result c = search needs
+mul-wide : tie.Need-mul-wide
+mul-wide c = search needs
 
-array-read-result : tie.Need-array-read-result
-array-read-result c = search needs
+array-read-wide : tie.Need-array-read-wide
+array-read-wide c = search needs
+
+wide-requires : tie.Need-wide-requires
+wide-requires c κs = search needs
 
 groupEnd : ℕ → ℕ → ℕ
 groupEnd c D = groupStart c + length (groupBelow D c)
@@ -34,8 +37,10 @@ row c = map (groupEnd c) (upFrom 0 (suc maxWindow))
 returns : tie.Need-returns
 unfolding row groupEnd groupStart groupsBelow group
 returns c =
-    ap (λ l. getD l (c .before .args .window) 0) (getD-table row (suc maxWindow) (c .before .args .c) [] (search needs))
-    ∙ getD-table (groupEnd (c .before .args .c)) (suc maxWindow) (c .before .args .window) 0 (search needs)
+    let a = c .before .before .args in
+    c .wide .ensures
+    ∙ ap (λ l. getD l (a .window) 0) (getD-table row (suc maxWindow) (a .c) [] (search needs))
+    ∙ getD-table (groupEnd (a .c)) (suc maxWindow) (a .window) 0 (search needs)
 
 pub group-end-spec : {M : Type 1} → statement M
-group-end-spec = tie.close (tie.spec mul-row array-copy-out-row mul-result array-read-result returns)
+group-end-spec = tie.close (tie.spec mul-row array-copy-out-row mul-wide array-read-wide wide-requires returns)

@@ -1,5 +1,6 @@
 -- `masks::group_start` meets its contract: the constant lists the starts, by one test that antt computes.
 -- Assumes nothing.
+use mathlib.Core.Path.{_∙_}
 use Prim.Native.Nat.{suc}
 use borrow.Author.Needs.{needs}
 use Rattle.model.specs.Limits.{maxWindow}
@@ -8,15 +9,18 @@ use Rattle.model.proofs.Lists.{getD-table}
 use Rattle.masks.proofs.group_start.Statement.{statement}
 use Rattle.masks.proofs.group_start.Tie as tie
 
-mul-result : tie.Need-mul-result
-mul-result c = search needs
+mul-wide : tie.Need-mul-wide
+mul-wide c = search needs
 
-array-read-result : tie.Need-array-read-result
-array-read-result c = search needs
+array-read-wide : tie.Need-array-read-wide
+array-read-wide c = search needs
+
+wide-requires : tie.Need-wide-requires
+wide-requires c κs = search needs
 
 returns : tie.Need-returns
 unfolding groupStart groupsBelow group
-returns c = getD-table groupStart (suc (suc maxWindow)) (c .args .c) 0 (search needs)
+returns c = c .wide .ensures ∙ getD-table groupStart (suc (suc maxWindow)) (c .before .args .c) 0 (search needs)
 
 pub group-start-spec : {M : Type 1} → statement M
-group-start-spec = tie.close (tie.spec mul-result array-read-result returns)
+group-start-spec = tie.close (tie.spec mul-wide array-read-wide wide-requires returns)
