@@ -13,6 +13,7 @@ use lib.Seq.{drop-drop}
 use Rattle.model.specs.Limits.{maxNodes, maxSteps}
 use Rattle.model.specs.Bytes.{number}
 use Rattle.model.specs.Certificate.{Certificate, has, readPotentials, readSteps, isEnd, withSteps, withPotentials, readCertificate}
+use Rattle.certificate.specs.declared.Cursor.{Cursor}
 use Rattle.certificate.specs.declared.Run.{Run}
 use Rattle.certificate.specs.declared.Run.the-variants.{Fault, Items}
 use Rattle.certificate.specs.View.{headCommand, nodeCommand, headSize, potentialSize, cycleSize, stepSize, potentialIn, stepIn, pIn, qIn, countIn, nodeIn, items, potentialsIn, stepsIn, runOf, cycleFrom}
@@ -21,43 +22,43 @@ use Rattle.certificate.proofs.Runs.{items-length}
 -- ---- the cycle
 
 module _ (bs : List ℕ) (p q n at : ℕ) where
-  -- with a cycle of m steps from the node v
-  abbrev withCycle : ℕ → ℕ → Certificate
-  withCycle v m = record { p = p; q = q; potentials = potentialsIn bs n; node = v; steps = stepsIn bs (at + cycleSize) m }
-
   pub cycle-missing : has (drop at bs) nodeCommand cycleSize ≡ false → none ≡ cycleFrom bs p q n at
   cycle-missing e =
       sym
       (λ i. cond (e i) (withSteps p q (potentialsIn bs n) (nodeIn (drop at bs) 0) (readSteps maxSteps (drop cycleSize (drop at bs)))) none)
 
-  module _ (here : has (drop at bs) nodeCommand cycleSize ≡ true) (r : Run)
-      (read : runOf bs (stepIn bs) (at + cycleSize) stepSize r ≡ readSteps maxSteps (drop (at + cycleSize) bs)) where
+  module _ (here : has (drop at bs) nodeCommand cycleSize ≡ true) (from : ℕ) (place : from ≡ at + cycleSize) (r : Run)
+      (read : runOf bs (stepIn bs) from stepSize r ≡ readSteps maxSteps (drop from bs)) where
+    -- with a cycle of m steps from the node v
+    abbrev withCycle : ℕ → ℕ → Certificate
+    withCycle v m = record { p = p; q = q; potentials = potentialsIn bs n; node = v; steps = stepsIn bs from m }
+
     -- by the run of steps
-    by-steps : {u : Run} → r ≡ u →
-        cycleFrom bs p q n at ≡ withSteps p q (potentialsIn bs n) (nodeIn bs at) (runOf bs (stepIn bs) (at + cycleSize) stepSize u)
+    by-steps : {u : Run} → r ≡ u → cycleFrom bs p q n at ≡ withSteps p q (potentialsIn bs n) (nodeIn bs at) (runOf bs (stepIn bs) from stepSize u)
     by-steps k =
         (λ i. cond (here i) (withSteps p q (potentialsIn bs n) (number (take 2 (drop-drop 1 at bs i))) (readSteps maxSteps (drop-drop cycleSize at bs i))) none)
-        ∙ ap (withSteps p q (potentialsIn bs n) (nodeIn bs at)) (sym read ∙ ap (runOf bs (stepIn bs) (at + cycleSize) stepSize) k)
+        ∙ ap (λ (m : ℕ). withSteps p q (potentialsIn bs n) (nodeIn bs at) (readSteps maxSteps (drop m bs))) (sym place)
+        ∙ ap (withSteps p q (potentialsIn bs n) (nodeIn bs at)) (sym read ∙ ap (runOf bs (stepIn bs) from stepSize) k)
 
     pub cycle-fault : r ≡ Fault → none ≡ cycleFrom bs p q n at
     cycle-fault k = sym (by-steps k)
 
-    module _ (m end : ℕ) (k : r ≡ Items m end) where
+    module _ (m : ℕ) (end : Cursor) (k : r ≡ Items m end) where
       -- by how many they are
       by-count : {b : Bool} → ltb 0 m ≡ b →
-          cycleFrom bs p q n at ≡ cond (isEnd (drop end bs) && b) (some (withCycle (nodeIn bs at) m)) none
+          cycleFrom bs p q n at ≡ cond (isEnd (drop (end .at) bs) && b) (some (withCycle (nodeIn bs at) m)) none
       by-count e =
           by-steps k
-          ∙ ap (λ t. cond (isEnd (drop end bs) && t) (some (withCycle (nodeIn bs at) m)) none)
-          (ap (ltb 0) (items-length (stepIn bs) (at + cycleSize) stepSize m) ∙ e)
+          ∙ ap (λ t. cond (isEnd (drop (end .at) bs) && t) (some (withCycle (nodeIn bs at) m)) none)
+          (ap (ltb 0) (items-length (stepIn bs) from stepSize m) ∙ e)
 
       pub cycle-empty : m ≡ 0 → none ≡ cycleFrom bs p q n at
-      cycle-empty z = sym (by-count (le-ltb 0 m (omega arith)) ∙ ap (λ t. cond t (some (withCycle (nodeIn bs at) m)) none) (and-false (isEnd (drop end bs))))
+      cycle-empty z = sym (by-count (le-ltb 0 m (omega arith)) ∙ ap (λ t. cond t (some (withCycle (nodeIn bs at) m)) none) (and-false (isEnd (drop (end .at) bs))))
 
       pub cycle-read : (m ≡ 0 → ⊥) → (v : ℕ) → v ≡ nodeIn bs at →
-          cond (isEnd (drop end bs)) (some (withCycle v m)) none ≡ cycleFrom bs p q n at
+          cond (isEnd (drop (end .at) bs)) (some (withCycle v m)) none ≡ cycleFrom bs p q n at
       cycle-read h v e =
-          sym (by-count (lt-ltb 0 m (omega arith)) ∙ ap₂ (λ t (u : ℕ). cond t (some (withCycle u m)) none) (and-true (isEnd (drop end bs))) (sym e))
+          sym (by-count (lt-ltb 0 m (omega arith)) ∙ ap₂ (λ t (u : ℕ). cond t (some (withCycle u m)) none) (and-true (isEnd (drop (end .at) bs))) (sym e))
 
 -- ---- the certificate
 
@@ -92,19 +93,21 @@ module _ (bs : List ℕ) where
       pub potentials-fault : r ≡ Fault → none ≡ readCertificate bs
       potentials-fault k = sym (by-potentials k)
 
-      module _ (m at : ℕ) (k : r ≡ Items m at) where
+      module _ (m : ℕ) (end : Cursor) (k : r ≡ Items m end) where
         -- by whether there is a cycle
         by-cycle : {b : Bool} → eqb q 0 ≡ b →
-            readCertificate bs ≡ cond b (cond (isEnd (drop at bs)) (some (record { p = p; q = q; potentials = potentialsIn bs m; node = 0; steps = [] })) none)
-            (cycleFrom bs p q m at)
+            readCertificate bs ≡ cond b (cond (isEnd (drop (end .at) bs)) (some (record { p = p; q = q; potentials = potentialsIn bs m; node = 0; steps = [] })) none)
+            (cycleFrom bs p q m (end .at))
         by-cycle e =
             by-potentials k
-            ∙ (λ i. cond (e i) (cond (isEnd (drop at bs)) (some (record { p = p; q = q; potentials = potentialsIn bs m; node = 0; steps = [] })) none) (cycleFrom bs p q m at))
+            ∙ (λ i. cond (e i) (cond (isEnd (drop (end .at) bs)) (some (record { p = p; q = q; potentials = potentialsIn bs m; node = 0; steps = [] })) none)
+            (cycleFrom bs p q m (end .at)))
 
-        pub with-cycle : (q ≡ 0 → ⊥) → cycleFrom bs p q m at ≡ readCertificate bs
+        pub with-cycle : (q ≡ 0 → ⊥) → cycleFrom bs p q m (end .at) ≡ readCertificate bs
         with-cycle h = sym (by-cycle (ne-eqb q 0 h))
 
         pub without-cycle : q ≡ 0 →
-            cond (isEnd (drop at bs)) (some (record { p = p; q = q; potentials = potentialsIn bs m; node = 0; steps = stepsIn bs at 0 })) none ≡ readCertificate bs
+            cond (isEnd (drop (end .at) bs)) (some (record { p = p; q = q; potentials = potentialsIn bs m; node = 0; steps = stepsIn bs (end .at) 0 })) none
+            ≡ readCertificate bs
         unfolding items
         without-cycle z = sym (by-cycle (eq-eqb q 0 z))

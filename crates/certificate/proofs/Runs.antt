@@ -17,8 +17,7 @@ use Rattle.model.specs.Bytes.{number, signed, part}
 use Rattle.model.specs.Certificate.{Step, Parsed, consParsed, has, readPotentials, readSteps}
 use Rattle.model.proofs.Lists.{length-upFrom, getD-table, upFrom-append}
 use Rattle.model.proofs.Plan.{both}
-use Rattle.certificate.specs.declared.Run.the-variants.{Items}
-use Rattle.certificate.specs.View.{potentialCommand, stepCommand, potentialWidth, masksWidth, potentialSize, stepSize, potentialIn, stepIn, items, runOf}
+use Rattle.certificate.specs.View.{potentialCommand, stepCommand, potentialWidth, masksWidth, potentialSize, stepSize, potentialIn, stepIn, items}
 
 module _ {A : Type 0} (item : ℕ → A) (from size : ℕ) where
   pub items-length : (n : ℕ) → length (items item from size n) ≡ n
@@ -88,12 +87,14 @@ module _ {A : Type 0} (read : ℕ → List ℕ → Option (Parsed (List A))) (it
     }
 
     -- no item follows
-    pub reached-end : read (n - i) (drop at bs) ≡ some (record { value = []; rest = drop at bs }) → runOf bs item from size (Items i at) ≡ read n (drop from bs)
+    pub reached-end : read (n - i) (drop at bs) ≡ some (record { value = []; rest = drop at bs }) →
+        some (record { value = items item from size i; rest = drop at bs }) ≡ read n (drop from bs)
     reached-end e =
         sym (h .rest ∙ ap (prefixed (items item from size i)) e ∙ ap (λ l. some (record { value = l; rest = drop at bs })) (append-nil (items item from size i)))
 
     -- no item is left to read
-    pub reached-all : n ≤ i → read 0 (drop at bs) ≡ some (record { value = []; rest = drop at bs }) → runOf bs item from size (Items i at) ≡ read n (drop from bs)
+    pub reached-all : n ≤ i → read 0 (drop at bs) ≡ some (record { value = []; rest = drop at bs }) →
+        some (record { value = items item from size i; rest = drop at bs }) ≡ read n (drop from bs)
     reached-all full e = reached-end (ap (λ (k : ℕ). read k (drop at bs)) (omega arith) ∙ e)
 
     -- the next item is at fault

@@ -111,12 +111,12 @@ stepAt ss j = getD ss j (record { label = 0; masks = [] })
 -- the items of a run, and the bytes after them
 abbrev pub runOf : {A : Type 0} → List ℕ → (ℕ → A) → ℕ → ℕ → Run → Option (Parsed (List A))
 runOf bs item from size run.Fault = none
-runOf bs item from size (run.Items n at) = some (record { value = items item from size n; rest = drop at bs })
+runOf bs item from size (run.Items n cursor) = some (record { value = items item from size n; rest = drop (cursor .at) bs })
 
 -- a run ends within the bytes
 abbrev pub Inside : List ℕ → Run → Type 0
 Inside bs run.Fault = Unit {0}
-Inside bs (run.Items n at) = at ≤ length bs
+Inside bs (run.Items n cursor) = cursor .at ≤ length bs
 
 -- the certificate whose cycle starts at a place, after n potentials
 abbrev pub cycleFrom : List ℕ → ℕ → ℕ → ℕ → ℕ → Option Certificate

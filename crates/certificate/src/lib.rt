@@ -3,7 +3,7 @@ ghost use mathlib.Core.Path.{_≡_};
 ghost use mathlib.Core.Bool.{true, cond};
 ghost use mathlib.Core.List.{_∷_};
 ghost use mathlib.Core.Option.{none, some};
-ghost use Prim.Native.Nat.{_+_, _*_, _≤_, _<_};
+ghost use Prim.Native.Nat.{_+_, _*_, _^_, _≤_, _<_};
 ghost use lib.ListN.{length, drop};
 ghost use lib.Signed.{leZ};
 ghost use Rattle.model.specs.Limits.{maxSteps};
@@ -53,10 +53,15 @@ pub enum Form {
     Read(Parts),
 }
 
-// So many items, and the place after them.
+// The place of the next byte to be read.
+struct Cursor {
+    at: usize,
+}
+
+// So many items, and the cursor after them.
 enum Run {
     Fault,
-    Items(usize, usize),
+    Items(usize, Cursor),
 }
 
 // 1000 p / q rounded down, or none for 1/0.
@@ -65,61 +70,71 @@ pub enum Permille {
     Some(u64),
 }
 
-// Whether a command stands at a place, with n bytes in all.
-fn has(s: &[u8], at: usize, command: u8, n: usize) -> bool
-    requires { ⌜ (at ≤ length (now s)) × (0 < n) ⌝ }
-    ensures { λ b. ⌜ b ≡ model.has (drop at (now (s .entry))) command n ⌝ }
+// The cursor n bytes on.
+fn past(cursor: Cursor, n: usize) -> Cursor
+    requires { ⌜ cursor .at + n < 2 ^ 64 ⌝ }
+    ensures { λ r. ⌜ r .at ≡ cursor .at + n ⌝ }
 {
+    Cursor { at: cursor.at + n }
+}
+
+// Whether a command stands at the cursor, with n bytes in all.
+fn has(s: &[u8], cursor: Cursor, command: u8, n: usize) -> bool
+    requires { ⌜ (cursor .at ≤ length (now s)) × (0 < n) ⌝ }
+    ensures { λ b. ⌜ b ≡ model.has (drop (cursor .at) (now (s .entry))) command n ⌝ }
+{
+    let at = cursor.at;
     if s.len() - at < n {
         return false;
     }
     s[at] == command
 }
 
-// The potentials, n of them.
-fn potentials(s: &[u8], n: usize) -> Run
-    requires { ⌜ headSize ≤ length (now s) ⌝ }
+// The potentials from the cursor on, n of them.
+fn potentials(s: &[u8], from: Cursor, n: usize) -> Run
+    requires { ⌜ from .at ≤ length (now s) ⌝ }
     ensures { λ r. ⌜ Inside (now (s .entry)) r ⌝ }
-    ensures { λ r. ⌜ runOf (now (s .entry)) (potentialIn (now (s .entry))) headSize potentialSize r ≡ model.readPotentials n (drop headSize (now (s .entry))) ⌝ }
+    ensures { λ r. ⌜ runOf (now (s .entry)) (potentialIn (now (s .entry))) (from .at) potentialSize r ≡ model.readPotentials n (drop (from .at) (now (s .entry))) ⌝ }
 {
     let mut i = 0;
-    let mut at = HEAD_SIZE;
+    let mut cursor = from;
     while i < n {
-        if !has(s, at, 0x12, POTENTIAL_SIZE) {
+        if !has(s, cursor, 0x12, POTENTIAL_SIZE) {
             return Run::Fault;
         }
-        at += POTENTIAL_SIZE;
+        cursor = past(cursor, POTENTIAL_SIZE);
         i += 1;
     }
-    Run::Items(i, at)
+    Run::Items(i, cursor)
 }
 
-// The steps from a place on, at most so many as a cycle has.
-fn steps(s: &[u8], from: usize) -> Run
-    requires { ⌜ from ≤ length (now s) ⌝ }
+// The steps from the cursor on, at most so many as a cycle has.
+fn steps(s: &[u8], from: Cursor) -> Run
+    requires { ⌜ from .at ≤ length (now s) ⌝ }
     ensures { λ r. ⌜ Inside (now (s .entry)) r ⌝ }
-    ensures { λ r. ⌜ runOf (now (s .entry)) (stepIn (now (s .entry))) from stepSize r ≡ model.readSteps maxSteps (drop from (now (s .entry))) ⌝ }
+    ensures { λ r. ⌜ runOf (now (s .entry)) (stepIn (now (s .entry))) (from .at) stepSize r ≡ model.readSteps maxSteps (drop (from .at) (now (s .entry))) ⌝ }
 {
     let mut i = 0;
-    let mut at = from;
+    let mut cursor = from;
     while i < MAX_STEPS {
-        if !has(s, at, 0x14, 1) {
-            return Run::Items(i, at);
+        if !has(s, cursor, 0x14, 1) {
+            return Run::Items(i, cursor);
         }
-        if s.len() - at < STEP_SIZE {
+        if s.len() - cursor.at < STEP_SIZE {
             return Run::Fault;
         }
-        at += STEP_SIZE;
+        cursor = past(cursor, STEP_SIZE);
         i += 1;
     }
-    Run::Items(i, at)
+    Run::Items(i, cursor)
 }
 
-// The parts, if the end stands at a place and nothing after it.
-fn ended(s: &[u8], at: usize, parts: Parts) -> Form
-    requires { ⌜ at ≤ length (now s) ⌝ }
-    ensures { λ r. ⌜ formOf (now (s .entry)) r ≡ cond (model.isEnd (drop at (now (s .entry)))) (some (certificateOf (now (s .entry)) parts)) none ⌝ }
+// The parts, if the end stands at the cursor and nothing after it.
+fn ended(s: &[u8], cursor: Cursor, parts: Parts) -> Form
+    requires { ⌜ cursor .at ≤ length (now s) ⌝ }
+    ensures { λ r. ⌜ formOf (now (s .entry)) r ≡ cond (model.isEnd (drop (cursor .at) (now (s .entry)))) (some (certificateOf (now (s .entry)) parts)) none ⌝ }
 {
+    let at = cursor.at;
     if s.len() - at != 1 {
         return Form::Fault;
     }
@@ -129,16 +144,16 @@ fn ended(s: &[u8], at: usize, parts: Parts) -> Form
     Form::Read(parts)
 }
 
-// A cycle from a place on, after so many potentials.
-fn cycle(s: &[u8], p: u32, q: u32, count: usize, at: usize) -> Form
-    requires { ⌜ at ≤ length (now s) ⌝ }
-    ensures { λ r. ⌜ formOf (now (s .entry)) r ≡ cycleFrom (now (s .entry)) p q count at ⌝ }
+// A cycle from the cursor on, after so many potentials.
+fn cycle(s: &[u8], p: u32, q: u32, count: usize, cursor: Cursor) -> Form
+    requires { ⌜ cursor .at ≤ length (now s) ⌝ }
+    ensures { λ r. ⌜ formOf (now (s .entry)) r ≡ cycleFrom (now (s .entry)) p q count (cursor .at) ⌝ }
 {
-    if !has(s, at, 0x13, CYCLE_SIZE) {
+    if !has(s, cursor, 0x13, CYCLE_SIZE) {
         return Form::Fault;
     }
-    let node = words::read_u16(s, at + 1) as usize;
-    let from = at + CYCLE_SIZE;
+    let node = words::read_u16(s, cursor.at + 1) as usize;
+    let from = past(cursor, CYCLE_SIZE);
     let Run::Items(n, end) = steps(s, from) else {
         return Form::Fault;
     };
@@ -153,7 +168,7 @@ fn cycle(s: &[u8], p: u32, q: u32, count: usize, at: usize) -> Form
             q,
             count,
             node,
-            from,
+            from: from.at,
             steps: n,
         },
     )
@@ -163,33 +178,34 @@ fn cycle(s: &[u8], p: u32, q: u32, count: usize, at: usize) -> Form
 pub fn read(s: &[u8]) -> Form
     ensures { λ r. ⌜ formOf (now (s .entry)) r ≡ model.readCertificate (now (s .entry)) ⌝ }
 {
-    if !has(s, 0, 0x11, HEAD_SIZE) {
+    let start = Cursor { at: 0 };
+    if !has(s, start, 0x11, HEAD_SIZE) {
         return Form::Fault;
     }
-    let p = words::read_u32(s, 1);
-    let q = words::read_u32(s, 5);
-    let n = words::read_u16(s, 9) as usize;
+    let p = words::read_u32(s, start.at + 1);
+    let q = words::read_u32(s, start.at + 5);
+    let n = words::read_u16(s, start.at + 9) as usize;
     if n < 1 {
         return Form::Fault;
     }
     if MAX_NODES < n {
         return Form::Fault;
     }
-    let Run::Items(count, at) = potentials(s, n) else {
+    let Run::Items(count, cursor) = potentials(s, past(start, HEAD_SIZE), n) else {
         return Form::Fault;
     };
     if q != 0 {
-        return cycle(s, p, q, count, at);
+        return cycle(s, p, q, count, cursor);
     }
     ended(
         s,
-        at,
+        cursor,
         Parts {
             p,
             q,
             count,
             node: 0,
-            from: at,
+            from: cursor.at,
             steps: 0,
         },
     )

@@ -21,29 +21,29 @@ has-requires c κs = search needs
 returns : tie.Need-returns
 returns c =
     let a = c .before .before .before .args in
-    cycle-missing (now (a .s)) (a .p) (a .q) (a .count) (a .at) (sym (c .before .has .ensures) ∙ not-true _ (c .if1 .taken))
+    cycle-missing (now (a .s)) (a .p) (a .q) (a .count) (a .cursor .at) (sym (c .before .has .ensures) ∙ not-true _ (c .if1 .taken))
 
 -- the cycle's start stands here
-stands : (c : tie.Else1) → has (drop (c .before .before .before .args .at) (now (c .before .before .before .args .s))) nodeCommand cycleSize ≡ true
+stands : (c : tie.Else1) → has (drop (c .before .before .before .args .cursor .at) (now (c .before .before .before .args .s))) nodeCommand cycleSize ≡ true
 stands c = sym (c .before .has .ensures) ∙ not-false _ (c .if1 .left)
 
-room : (c : tie.Else1) → c .before .before .before .args .at + cycleSize ≤ length (now (c .before .before .before .args .s))
-room c = let a = c .before .before .before in has-room (now (a .args .s)) (a .args .at) _ _ (a .pre) (stands c)
+room : (c : tie.Else1) → c .before .before .before .args .cursor .at + cycleSize ≤ length (now (c .before .before .before .args .s))
+room c = let a = c .before .before .before in has-room (now (a .args .s)) (a .args .cursor .at) _ _ (a .pre) (stands c)
 
 add-read-u16 : tie.Need-add-read-u16
-add-read-u16 c = search needs
+add-read-u16 c = omega (arith, room (c .before))
 
 read-u16-requires : tie.Need-read-u16-requires
-read-u16-requires c κs = omega (arith, room c)
+read-u16-requires c κs = omega (arith, room (c .before))
 
 cast-node : tie.Need-cast-node
 cast-node c = search needs
 
-add-from : tie.Need-add-from
-add-from c = search needs
+past-requires : tie.Need-past-requires
+past-requires c = omega (arith, room (c .before .before))
 
 steps-requires : tie.Need-steps-requires
-steps-requires c κs = room (c .before)
+steps-requires c κs = omega (arith, c .past .ensures, room (c .before .before .before))
 
 enum-known-n : tie.Need-enum-known-n
 enum-known-n c = search needs
@@ -54,30 +54,34 @@ enum-told c = search needs
 returns-2 : tie.Need-returns-2
 returns-2 c =
     let r = c .before .before in
-    let a = r .before .before .before .before .before .args in
-    cycle-fault (now (a .s)) (a .p) (a .q) (a .count) (a .at) (stands (r .before .before)) _ (r .steps .ensures .1) (c .enum-told .given .1)
+    let e = r .before .before .before .before in
+    let a = e .before .before .before .args in
+    cycle-fault (now (a .s)) (a .p) (a .q) (a .count) (a .cursor .at) (stands e) _ (r .before .past .ensures) _ (r .steps .ensures .1) (c .enum-told .given .1)
 
 returns-3 : tie.Need-returns-3
 returns-3 c =
     let n = c .before .before in
     let r = n .before .before in
-    let a = r .before .before .before .before .before .args in
-    cycle-empty (now (a .s)) (a .p) (a .q) (a .count) (a .at) (stands (r .before .before)) _ (r .steps .ensures .1) _ _ (n .n .given .1) (c .if2 .taken)
+    let e = r .before .before .before .before in
+    let a = e .before .before .before .args in
+    cycle-empty (now (a .s)) (a .p) (a .q) (a .count) (a .cursor .at) (stands e) _ (r .before .past .ensures) _ (r .steps .ensures .1) _ _ (n .n .given .1)
+    (c .if2 .taken)
 
 ended-requires : tie.Need-ended-requires
 ended-requires c κs =
     let n = c .before .before in
     let r = n .before .before in
-    subst (Inside (now (r .before .before .before .before .before .args .s))) (n .n .given .1) (r .steps .ensures .0)
+    subst (Inside (now (r .before .before .before .before .before .before .before .args .s))) (n .n .given .1) (r .steps .ensures .0)
 
 returns-4 : tie.Need-returns-4
 returns-4 c =
     let n = c .before .before .before in
     let r = n .before .before in
-    let a = r .before .before .before .before .before .args in
+    let e = r .before .before .before .before in
+    let a = e .before .before .before .args in
     c .ended .ensures
-    ∙ cycle-read (now (a .s)) (a .p) (a .q) (a .count) (a .at) (stands (r .before .before)) _ (r .steps .ensures .1) _ _ (n .n .given .1) (c .before .if2 .left)
-    _ (r .before .read-u16 .ensures)
+    ∙ cycle-read (now (a .s)) (a .p) (a .q) (a .count) (a .cursor .at) (stands e) _ (r .before .past .ensures) _ (r .steps .ensures .1) _ _ (n .n .given .1)
+    (c .before .if2 .left) _ (r .before .before .read-u16 .ensures)
 
 pub cycle-spec : {M : Type 1} → statement M
 cycle-spec =
@@ -88,7 +92,7 @@ cycle-spec =
     add-read-u16
     read-u16-requires
     cast-node
-    add-from
+    past-requires
     steps-requires
     enum-known-n
     enum-told

@@ -29,16 +29,20 @@ sub-if1 : tie.Need-sub-if1
 sub-if1 c = search needs
 
 returns : tie.Need-returns
-returns c = by-tests (now (c .before .args .s)) (c .before .args .at) _ (ne-eqb _ _ (c .if1 .taken)) refl
+returns c = by-tests (now (c .before .args .s)) (c .before .args .cursor .at) _ (ne-eqb _ _ (c .if1 .taken)) refl
 
 shared-slice-read-if2 : tie.Need-shared-slice-read-if2
 shared-slice-read-if2 c = search needs
 
 returns-2 : tie.Need-returns-2
-returns-2 c = by-tests (now (c .before .before .before .args .s)) (c .before .before .before .args .at) _ (eq-eqb _ _ (c .before .before .if1 .left)) (ne-eqb _ _ (c .if2 .taken))
+returns-2 c =
+    let a = c .before .before .before .args in
+    by-tests (now (a .s)) (a .cursor .at) _ (eq-eqb _ _ (c .before .before .if1 .left)) (ne-eqb _ _ (c .if2 .taken))
 
 returns-3 : tie.Need-returns-3
-returns-3 c = by-tests (now (c .before .before .before .args .s)) (c .before .before .before .args .at) _ (eq-eqb _ _ (c .before .before .if1 .left)) (eq-eqb _ _ (c .if2 .left))
+returns-3 c =
+    let a = c .before .before .before .args in
+    by-tests (now (a .s)) (a .cursor .at) _ (eq-eqb _ _ (c .before .before .if1 .left)) (eq-eqb _ _ (c .if2 .left))
 
 pub ended-spec : {M : Type 1} → statement M
 ended-spec = tie.close (tie.spec sub-if1 returns shared-slice-read-if2 returns-2 returns-3)

@@ -15,11 +15,13 @@ use Rattle.certificate.proofs.has.Statement.{statement}
 use Rattle.certificate.proofs.has.Tie as tie
 
 -- the tests in place
-by-room : (a : tie.Start) (b : Bool) → leb (a .args .n) (length (now (a .args .s)) - a .args .at) ≡ b →
-    (eqb (getD (now (a .args .s)) (a .args .at) 0) (a .args .command) && b) ≡ model.has (drop (a .args .at) (now (a .args .s))) (a .args .command) (a .args .n)
+by-room : (a : tie.Start) (b : Bool) →
+    let bs = now (a .args .s) in
+    let at = a .args .cursor .at in
+    leb (a .args .n) (length bs - at) ≡ b → (eqb (getD bs at 0) (a .args .command) && b) ≡ model.has (drop at bs) (a .args .command) (a .args .n)
 by-room a b e =
     let bs = now (a .args .s) in
-    let at = a .args .at in
+    let at = a .args .cursor .at in
     sym
     (ap₂ (λ (x m : ℕ). eqb x (a .args .command) && leb (a .args .n) m) (getD-drop at bs 0 0 ∙ ap (λ (k : ℕ). getD bs k 0) (add-zero at)) (length-drop at bs)
     ∙ ap (λ t. eqb (getD bs at 0) (a .args .command) && t) e)
@@ -28,7 +30,9 @@ sub-if1 : tie.Need-sub-if1
 sub-if1 c = search needs
 
 returns : tie.Need-returns
-returns c = sym (and-false (eqb (getD (now (c .before .args .s)) (c .before .args .at) 0) (c .before .args .command))) ∙ by-room (c .before) false (lt-leb _ _ (c .if1 .taken))
+returns c =
+    let a = c .before .args in
+    sym (and-false (eqb (getD (now (a .s)) (a .cursor .at) 0) (a .command))) ∙ by-room (c .before) false (lt-leb _ _ (c .if1 .taken))
 
 shared-slice-read-result : tie.Need-shared-slice-read-result
 shared-slice-read-result c = search needs

@@ -2,14 +2,15 @@
 -- Assumes nothing.
 use mathlib.Core.Path.{_≡_, sym, _∙_, subst}
 use mathlib.Core.Bool.{true}
+use mathlib.Core.List.{List}
 use denote.Ref.{now}
-use Prim.Native.Nat.{_≤_}
+use Prim.Native.Nat.{ℕ, _≤_}
 use native.Mathlib.Omega.{arith}
 use borrow.Author.Needs.{needs}
 use borrow.Author.Tests.{not-true, not-false}
-use lib.ListN.{length}
-use Rattle.model.specs.Certificate.{has}
-use Rattle.certificate.specs.View.{headCommand, headSize, Inside}
+use lib.ListN.{length, drop}
+use Rattle.model.specs.Certificate.{has, readPotentials}
+use Rattle.certificate.specs.View.{headCommand, headSize, potentialSize, potentialIn, runOf, Inside}
 use Rattle.certificate.proofs.Runs.{has-room}
 use Rattle.certificate.proofs.Forms.{head-missing, no-nodes, many-nodes, potentials-fault, with-cycle, without-cycle}
 use Rattle.certificate.proofs.read.Statement.{statement}
@@ -28,30 +29,45 @@ stands c = sym (c .before .has .ensures) ∙ not-false _ (c .if1 .left)
 room : (c : tie.Else1) → headSize ≤ length (now (c .before .before .before .args .s))
 room c = omega (arith, has-room (now (c .before .before .before .args .s)) 0 _ _ (omega arith) (stands c))
 
+add-read-u32 : tie.Need-add-read-u32
+add-read-u32 c = search needs
+
 read-u32-requires : tie.Need-read-u32-requires
-read-u32-requires c κs = omega (arith, room c)
+read-u32-requires c κs = omega (arith, room (c .before))
+
+add-read-u32-2 : tie.Need-add-read-u32-2
+add-read-u32-2 c = search needs
 
 read-u32-requires-2 : tie.Need-read-u32-requires-2
-read-u32-requires-2 c κs = omega (arith, room (c .before))
+read-u32-requires-2 c κs = omega (arith, room (c .before .before .before))
+
+add-read-u16 : tie.Need-add-read-u16
+add-read-u16 c = search needs
 
 read-u16-requires : tie.Need-read-u16-requires
-read-u16-requires c κs = room (c .before .before)
+read-u16-requires c κs = room (c .before .before .before .before .before)
 
 cast-n : tie.Need-cast-n
 cast-n c = search needs
 
+-- the head that the number of potentials was read from
+abbrev head : tie.After-read-u16 → tie.Else1
+head n = n .before .before .before .before .before .before
+
+abbrev bytes : tie.After-read-u16 → List ℕ
+bytes n = now (head n .before .before .before .args .s)
+
 returns-2 : tie.Need-returns-2
-returns-2 c =
-    let e = c .before .before .before .before in
-    no-nodes (now (e .before .before .before .args .s)) (stands e) _ (c .before .read-u16 .ensures) (c .if2 .taken)
+returns-2 c = let n = c .before in no-nodes (bytes n) (stands (head n)) _ (n .read-u16 .ensures) (c .if2 .taken)
 
 returns-3 : tie.Need-returns-3
-returns-3 c =
-    let e = c .before .before .before .before .before in
-    many-nodes (now (e .before .before .before .args .s)) (stands e) _ (c .before .before .read-u16 .ensures) (c .before .if2 .left) (c .if3 .taken)
+returns-3 c = let n = c .before .before in many-nodes (bytes n) (stands (head n)) _ (n .read-u16 .ensures) (c .before .if2 .left) (c .if3 .taken)
+
+past-requires : tie.Need-past-requires
+past-requires c = search needs
 
 potentials-requires : tie.Need-potentials-requires
-potentials-requires c κs = room (c .before .before .before .before .before)
+potentials-requires c κs = omega (arith, c .past .ensures, room (head (c .before .before .before)))
 
 enum-known-count : tie.Need-enum-known-count
 enum-known-count c = search needs
@@ -59,45 +75,51 @@ enum-known-count c = search needs
 enum-told : tie.Need-enum-told
 enum-told c = search needs
 
+-- the potentials are those after the head
+after-head : (r : tie.After-potentials) →
+    let n = r .before .before .before .before in
+    runOf (bytes n) (potentialIn (bytes n)) headSize potentialSize (r .potentials .result) ≡ readPotentials (n .read-u16 .result) (drop headSize (bytes n))
+after-head r =
+    let n = r .before .before .before .before in
+    subst (λ (k : ℕ). runOf (bytes n) (potentialIn (bytes n)) k potentialSize (r .potentials .result) ≡ readPotentials (n .read-u16 .result) (drop k (bytes n)))
+    (r .before .past .ensures) (r .potentials .ensures .1)
+
 returns-4 : tie.Need-returns-4
 returns-4 c =
     let r = c .before .before in
-    let n = r .before .before .before in
-    let e = n .before .before .before in
-    potentials-fault (now (e .before .before .before .args .s)) (stands e) _ (n .read-u16 .ensures) (r .before .before .if2 .left) (r .before .if3 .left) _ _
-    (n .before .before .read-u32 .ensures) (n .before .read-u322 .ensures) _ (r .potentials .ensures .1) (c .enum-told .given .1)
+    let n = r .before .before .before .before in
+    potentials-fault (bytes n) (stands (head n)) _ (n .read-u16 .ensures) (r .before .before .before .if2 .left) (r .before .before .if3 .left) _ _
+    (n .before .before .before .before .read-u32 .ensures) (n .before .before .read-u322 .ensures) _ (after-head r) (c .enum-told .given .1)
 
 -- the potentials end within the bytes
-inside : (c : tie.After-known-told) → c .before .count .given .0 .1 .0 ≤ length (now (c .before .before .before .before .before .before .before .before .before .before .before .before .args .s))
-inside c =
-    let r = c .before .before .before in
-    subst (Inside (now (r .before .before .before .before .before .before .before .before .before .args .s))) (c .before .count .given .1) (r .potentials .ensures .0)
+inside : (k : tie.After-count) → k .count .given .0 .1 .0 .at ≤ length (bytes (k .before .before .before .before .before .before))
+inside k =
+    let r = k .before .before in
+    subst (Inside (bytes (r .before .before .before .before))) (k .count .given .1) (r .potentials .ensures .0)
 
 cycle-requires : tie.Need-cycle-requires
-cycle-requires c κs = inside (c .before)
+cycle-requires c κs = inside (c .before .before)
 
 returns-5 : tie.Need-returns-5
 returns-5 c =
     let k = c .before .before .before in
     let r = k .before .before in
-    let n = r .before .before .before in
-    let e = n .before .before .before in
+    let n = r .before .before .before .before in
     c .cycle .ensures
-    ∙ with-cycle (now (e .before .before .before .args .s)) (stands e) _ (n .read-u16 .ensures) (r .before .before .if2 .left) (r .before .if3 .left) _ _
-    (n .before .before .read-u32 .ensures) (n .before .read-u322 .ensures) _ (r .potentials .ensures .1) _ _ (k .count .given .1) (c .before .if4 .taken)
+    ∙ with-cycle (bytes n) (stands (head n)) _ (n .read-u16 .ensures) (r .before .before .before .if2 .left) (r .before .before .if3 .left) _ _
+    (n .before .before .before .before .read-u32 .ensures) (n .before .before .read-u322 .ensures) _ (after-head r) _ _ (k .count .given .1) (c .before .if4 .taken)
 
 ended-requires : tie.Need-ended-requires
-ended-requires c κs = inside (c .before)
+ended-requires c κs = inside (c .before .before)
 
 returns-6 : tie.Need-returns-6
 returns-6 c =
     let k = c .before .before .before in
     let r = k .before .before in
-    let n = r .before .before .before in
-    let e = n .before .before .before in
+    let n = r .before .before .before .before in
     c .ended .ensures
-    ∙ without-cycle (now (e .before .before .before .args .s)) (stands e) _ (n .read-u16 .ensures) (r .before .before .if2 .left) (r .before .if3 .left) _ _
-    (n .before .before .read-u32 .ensures) (n .before .read-u322 .ensures) _ (r .potentials .ensures .1) _ _ (k .count .given .1) (c .before .if4 .left)
+    ∙ without-cycle (bytes n) (stands (head n)) _ (n .read-u16 .ensures) (r .before .before .before .if2 .left) (r .before .before .if3 .left) _ _
+    (n .before .before .before .before .read-u32 .ensures) (n .before .before .read-u322 .ensures) _ (after-head r) _ _ (k .count .given .1) (c .before .if4 .left)
 
 pub read-spec : {M : Type 1} → statement M
 read-spec =
@@ -105,12 +127,16 @@ read-spec =
     (tie.spec
     has-requires
     returns
+    add-read-u32
     read-u32-requires
+    add-read-u32-2
     read-u32-requires-2
+    add-read-u16
     read-u16-requires
     cast-n
     returns-2
     returns-3
+    past-requires
     potentials-requires
     enum-known-count
     enum-told
