@@ -9,7 +9,7 @@ use policy::Rules;
 use potentials::Claim;
 ghost use mathlib.Core.Path.{_≡_};
 ghost use Prim.Native.Nat.{_≤_};
-ghost use lib.ListN.{length};
+ghost use lib.ListN.{length, drop};
 ghost use Rattle.model.specs.Certificate.{readCertificate};
 ghost use Rattle.model.specs.Check as model-check;
 ghost use Rattle.model.specs.Limits.{workRoom};
@@ -73,6 +73,7 @@ fn verdict(
 ) -> Answer
     requires { ⌜ Ruled rules × Held rules (now next) (now m) n × IsRead (now s) parts × (noteRoom ≤ length (now notes)) ⌝ }
     ensures { λ r. ⌜ ((P : model.Plan) → Planned P rules (now (next .entry)) → Holds P (tasksIn rules) (now (m .entry)) n → answerOf r ≡ model-check.verdict P (certificateOf (now (s .entry)) parts)) ⌝ }
+    ensures { λ _. ⌜ drop noteRoom (now (notes .exit)) ≡ drop noteRoom (now (notes .entry)) ⌝ }
 {
     if !certificate::fraction_ok(parts.p, parts.q) {
         return Answer::Refused(Refusal::BadFraction);
@@ -114,6 +115,7 @@ fn check_certificate(
 ) -> Answer
     requires { ⌜ Ruled rules × Held rules (now next) (now m) n × (noteRoom ≤ length (now notes)) ⌝ }
     ensures { λ r. ⌜ ((P : model.Plan) → Planned P rules (now (next .entry)) → Holds P (tasksIn rules) (now (m .entry)) n → answerOf r ≡ model-check.checkRead P (readCertificate (now (s .entry)))) ⌝ }
+    ensures { λ _. ⌜ drop noteRoom (now (notes .exit)) ≡ drop noteRoom (now (notes .entry)) ⌝ }
 {
     match certificate::read(s) {
         Form::Fault => Answer::Refused(Refusal::BadForm),

@@ -1,5 +1,5 @@
 -- `checker::check_certificate` meets its contract: a fault of form, or the verdict. Assumes nothing.
-use mathlib.Core.Path.{_≡_, sym, ap, _∙_}
+use mathlib.Core.Path.{_≡_, refl, sym, ap, _∙_}
 use mathlib.Core.List.{List}
 use mathlib.Core.Option.{Option}
 use Prim.Native.Nat.{ℕ}
@@ -32,8 +32,10 @@ verdict-requires c κs =
 
 returns : tie.Need-returns
 returns c =
-    let r = c .before .before in
-    λ P p h. sym (ap (checkRead P) (read-as (r .before .before .before .before .args .s .now) (r .read .ensures) (c .enum-told .given .1)))
+    let r = c .before .before in (
+      λ P p h. sym (ap (checkRead P) (read-as (r .before .before .before .before .args .s .now) (r .read .ensures) (c .enum-told .given .1))),
+      refl,
+    )
 
 same-length : tie.Need-same-length
 same-length c = search needs
@@ -41,8 +43,11 @@ same-length c = search needs
 returns-2 : tie.Need-returns-2
 returns-2 c =
     let v = c .before .before in
-    let r = v .before .before .before .before .before in
-    λ P p h. v .verdict .ensures P p h ∙ sym (ap (checkRead P) (read-as (r .before .before .before .before .args .s .now) (r .read .ensures) (v .before .before .before .parts .given .1)))
+    let r = v .before .before .before .before .before in (
+      λ P p h. v .verdict .ensures .0 P p h
+          ∙ sym (ap (checkRead P) (read-as (r .before .before .before .before .args .s .now) (r .read .ensures) (v .before .before .before .parts .given .1))),
+      v .verdict .ensures .1,
+    )
 
 pub check-certificate-spec : {M : Type 1} → statement M
 check-certificate-spec =

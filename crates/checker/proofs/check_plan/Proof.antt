@@ -82,7 +82,7 @@ returns-2 c =
     let p = start .args .plan in
     let of = planned p (rules .rules-of .result) (start .pre .1) (rules .rules-of .ensures) in
     let count = c .before .before .before .before .before .before .n .given .1 in
-    call .check-certificate .ensures (planOf p) of (found .discover .ensures .0 .held _ count (planOf p) of)
+    call .check-certificate .ensures .0 (planOf p) of (found .discover .ensures .0 .held _ count (planOf p) of)
     ∙ small (planOf p) (length (nodes (planOf p))) _ (start .args .s .now) (sym (ap sizeOf count) ∙ found .discover .ensures .0 .answer (planOf p) of)
 
 pub check-plan-spec : {M : Type 1} → statement M

@@ -46,8 +46,10 @@ fraction-ok-requires c κs = search needs
 
 returns : tie.Need-returns
 returns c =
-    let a = c .before .before .before .before .before .args in
-    λ P p h. bad-fraction P (certificateOf (a .s .now) (a .parts)) (sym (c .before .fraction-ok .ensures) ∙ not-true _ (c .if1 .taken))
+    let a = c .before .before .before .before .before .args in (
+      λ P p h. bad-fraction P (certificateOf (a .s .now) (a .parts)) (sym (c .before .fraction-ok .ensures) ∙ not-true _ (c .if1 .taken)),
+      refl,
+    )
 
 returns-2 : tie.Need-returns-2
 returns-2 c =
@@ -56,8 +58,10 @@ returns-2 c =
     let bs = a .s .now in
     let z = certificateOf bs (a .parts) in
     let fraction = sym (c .before .before .before .fraction-ok .ensures) ∙ not-false _ (c .before .before .if1 .left) in
-    let size = items-length (potentialIn bs) headSize potentialSize (a .parts .count) in
-    λ P p h. bad-count P z fraction (λ e. c .if2 .taken (sym size ∙ e ∙ held-count (tasksIn (a .rules)) (a .m .now) (a .n) (nodes P) (h .nodes)))
+    let size = items-length (potentialIn bs) headSize potentialSize (a .parts .count) in (
+      λ P p h. bad-count P z fraction (λ e. c .if2 .taken (sym size ∙ e ∙ held-count (tasksIn (a .rules)) (a .m .now) (a .n) (nodes P) (h .nodes))),
+      refl,
+    )
 
 within-limits-requires : tie.Need-within-limits-requires
 within-limits-requires c κs = search needs
@@ -70,8 +74,11 @@ returns-3 c =
     let z = certificateOf bs (a .parts) in
     let fraction = sym (c .before .before .before .before .before .fraction-ok .ensures) ∙ not-false _ (c .before .before .before .before .if1 .left) in
     let size = items-length (potentialIn bs) headSize potentialSize (a .parts .count) in
-    let count : a .parts .count ≡ a .n = c .before .before .if2 .left in
-    λ P p h. bad-limit P z fraction (size ∙ count ∙ sym (held-count (tasksIn (a .rules)) (a .m .now) (a .n) (nodes P) (h .nodes))) (sym (c .before .within-limits .ensures) ∙ not-true _ (c .if3 .taken))
+    let count : a .parts .count ≡ a .n = c .before .before .if2 .left in (
+      λ P p h. bad-limit P z fraction (size ∙ count ∙ sym (held-count (tasksIn (a .rules)) (a .m .now) (a .n) (nodes P) (h .nodes)))
+          (sym (c .before .within-limits .ensures) ∙ not-true _ (c .if3 .taken)),
+      refl,
+    )
 
 edges-hold-requires : tie.Need-edges-hold-requires
 edges-hold-requires c κs =
@@ -102,8 +109,12 @@ returns-4 c =
     let size = items-length (potentialIn bs) headSize potentialSize (a .parts .count) in
     let count : a .parts .count ≡ a .n = c .before .before .before .before .before .before .before .if2 .left in
     let within = sym (c .before .before .before .before .before .before .within-limits .ensures) ∙ not-false _ (c .before .before .before .before .before .if3 .left) in
-    let edges = c .before .before .before .edges-hold .ensures .0 in
-    λ P p h. bad-edge P z fraction (size ∙ count ∙ sym (held-count (tasksIn (a .rules)) (a .m .now) (a .n) (nodes P) (h .nodes))) within (sym (not-true _ (c .if4 .taken)) ∙ edges P z (tested P (a .rules) (a .next .now) (a .m .now) bs (a .n) (a .parts) p h (start .pre .2) fraction count within))
+    let edges = c .before .before .before .edges-hold .ensures in (
+      λ P p h. bad-edge P z fraction (size ∙ count ∙ sym (held-count (tasksIn (a .rules)) (a .m .now) (a .n) (nodes P) (h .nodes)))
+          within (sym (not-true _ (c .if4 .taken)) ∙ edges .0 P z
+          (tested P (a .rules) (a .next .now) (a .m .now) bs (a .n) (a .parts) p h (start .pre .2) fraction count within)),
+      edges .1,
+    )
 
 holds-requires : tie.Need-holds-requires
 holds-requires c κs = search needs
@@ -121,9 +132,13 @@ returns-5 c =
     let size = items-length (potentialIn bs) headSize potentialSize (a .parts .count) in
     let count : a .parts .count ≡ a .n = c .before .before .before .before .before .before .before .before .before .if2 .left in
     let within = sym (c .before .before .before .before .before .before .before .before .within-limits .ensures) ∙ not-false _ (c .before .before .before .before .before .before .before .if3 .left) in
-    let edges = c .before .before .before .before .before .edges-hold .ensures .0 in
-    λ P p h. bad-cycle P z fraction (size ∙ count ∙ sym (held-count (tasksIn (a .rules)) (a .m .now) (a .n) (nodes P) (h .nodes))) within (sym (not-false _ (c .before .before .if4 .left)) ∙ edges P z (tested P (a .rules) (a .next .now) (a .m .now) bs (a .n) (a .parts) p h (start .pre .2) fraction count within))
-    (sym (not-true _ (c .if5 .taken)) ∙ c .before .holds .ensures P p h)
+    let edges = c .before .before .before .before .before .edges-hold .ensures in (
+      λ P p h. bad-cycle P z fraction (size ∙ count ∙ sym (held-count (tasksIn (a .rules)) (a .m .now) (a .n) (nodes P) (h .nodes)))
+          within (sym (not-false _ (c .before .before .if4 .left)) ∙ edges .0 P z
+          (tested P (a .rules) (a .next .now) (a .m .now) bs (a .n) (a .parts) p h (start .pre .2) fraction count within))
+          (sym (not-true _ (c .if5 .taken)) ∙ c .before .holds .ensures P p h),
+      edges .1,
+    )
 
 allowance-requires : tie.Need-allowance-requires
 allowance-requires c κs =
@@ -143,10 +158,14 @@ returns-6 c =
     let size = items-length (potentialIn bs) headSize potentialSize (a .parts .count) in
     let count : a .parts .count ≡ a .n = c .before .before .before .before .before .before .before .before .before .before .if2 .left in
     let within = sym (c .before .before .before .before .before .before .before .before .before .within-limits .ensures) ∙ not-false _ (c .before .before .before .before .before .before .before .before .if3 .left) in
-    let edges = c .before .before .before .before .before .before .edges-hold .ensures .0 in
-    λ P p h. (λ i. share (a .parts .p) (a .parts .q) ((sym count ∙ sym size) i) (c .allowance .ensures i))
-    ∙ accepted P z fraction (size ∙ count ∙ sym (held-count (tasksIn (a .rules)) (a .m .now) (a .n) (nodes P) (h .nodes))) within (sym (not-false _ (c .before .before .before .if4 .left)) ∙ edges P z (tested P (a .rules) (a .next .now) (a .m .now) bs (a .n) (a .parts) p h (start .pre .2) fraction count within))
-    (sym (not-false _ (c .before .if5 .left)) ∙ c .before .before .holds .ensures P p h)
+    let edges = c .before .before .before .before .before .before .edges-hold .ensures in (
+      λ P p h. (λ i. share (a .parts .p) (a .parts .q) ((sym count ∙ sym size) i) (c .allowance .ensures i))
+          ∙ accepted P z fraction (size ∙ count ∙ sym (held-count (tasksIn (a .rules)) (a .m .now) (a .n) (nodes P) (h .nodes)))
+          within (sym (not-false _ (c .before .before .before .if4 .left)) ∙ edges .0 P z
+          (tested P (a .rules) (a .next .now) (a .m .now) bs (a .n) (a .parts) p h (start .pre .2) fraction count within))
+          (sym (not-false _ (c .before .if5 .left)) ∙ c .before .before .holds .ensures P p h),
+      edges .1,
+    )
 
 pub verdict-spec : {M : Type 1} → statement M
 verdict-spec =
