@@ -301,7 +301,3 @@ module _ (m : List ℕ) (count : ℕ) where
   pub best-at : (p : ℕ) → p < patternCount → bestIn m p ≡ getD (notesIn m count .best) p none
   unfolding notesIn
   best-at p h = sym (getD-table (bestIn m) patternCount p none h)
-
-  pub pattern-at : (k : ℕ) → k < count → patternIn m k ≡ getD (notesIn m count .order) k 0
-  unfolding notesIn
-  pattern-at k h = sym (getD-table (patternIn m) count k 0 h)

@@ -1,5 +1,5 @@
 -- `check_text::put_thousandths` meets its contract. Assumes nothing.
-use mathlib.Core.Path.{_≡_, sym, ap, _∙_}
+use mathlib.Core.Path.{sym, ap, _∙_}
 use native.Mathlib.Omega.{arith}
 use Rattle.model.specs.Text.{thousandthsText}
 use Rattle.certificate.specs.View.{permilleOf}
