@@ -137,7 +137,6 @@ module _ (P : Plan) (c : Certificate) (r : Rules) (next m s : List ℕ) (claim :
       label-charged small = record {
         readable = reaches .readable;
         fitsP = t .fitsP;
-        fitsQ = t .fitsQ;
         fitsHigh = subst (λ (z : ℤ). natAbs z ≤ maxHigh) (sym is-high) (high-small (potentialAt zs u) (claim .q * d .done .gain) small potential-small);
         noted = λ k h.
             subst (λ (n : Notes). 0 < getD (n .best) (patternIn after k) outcomes.none .score) (sym (reaches .notes))

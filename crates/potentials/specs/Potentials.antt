@@ -88,7 +88,6 @@ maxHigh = maxPotential + maxCharge
 pub record Charged (claim : Claim) (s notes m : List ℕ) (count : ℕ) (cells : List ℕ) (state : ℕ) (high : ℤ) : Type 0 where
   pub readable : Readable notes count
   pub fitsP : claim .p ≤ maxP
-  pub fitsQ : claim .q ≤ maxQ
   pub fitsHigh : natAbs high ≤ maxHigh
   pub noted : (k : ℕ) → k < count → 0 < scoreIn notes count (patternIn notes k)
   pub found : (k : ℕ) → k < count → Findable s m (claim .n) (withPattern cells state (patternIn notes k))

@@ -59,7 +59,7 @@ sub-gain c =
 times-requires : tie.Need-times-requires Inv-loop μ-loop
 times-requires c κs =
     let start = c .before .before .before .before .before .before .before in
-    omega (arith, start .pre .fitsP, start .pre .fitsQ)
+    omega (arith, start .pre .fitsP)
 
 -- what is charged
 charge : (c : tie.After-times Inv-loop μ-loop) →
