@@ -16,27 +16,23 @@ use Rattle.policy.specs.View.{Tasks, tasksIn}
 use Rattle.policy.specs.declared.Rules.{Rules}
 use Rattle.graph.specs.View.{nodeOf, Starts, Planned, Planning}
 use Rattle.graph.specs.declared.Node.{Node}
-use Rattle.store.specs.Store.{storeBytes, rowAt, rowsIn, Distinct, Indexed}
+use Rattle.store.specs.Store.{storeBytes, rowAt, rowsIn, Indexed}
+use Rattle.store.proofs.Rows.{distinct-none}
 use Rattle.discovery.specs.declared.Discovered.{Discovered}
 use Rattle.discovery.specs.declared.Discovered.the-variants.{TooMany, Nodes}
 use Rattle.discovery.proofs.Held.{held-count, held-node}
 use Rattle.discovery.proofs.Whole.{state-below}
 use Rattle.discovery.specs.Discovery.{nodeIn, nodesIn, Holding, Known, Stored, Adds, Begun, Holds, Discovers}
 
--- no rows
-no-rows : (m : List ℕ) → Distinct (rowsIn m 0)
-unfolding rowsIn
-no-rows m = record { apart = λ i j h k e. absurd (omega arith) }
-
 pub none-stored : (m : List ℕ) → Indexed m 0 → Stored m 0
-none-stored m index = record { index = index; distinct = no-rows m }
+none-stored m index = record { index = index; distinct = distinct-none m }
 
 -- the start node joins them
 pub begun : (r : Rules) (u : Node) → Starts u → (m m′ : List ℕ) (q : ℕ) → Indexed m 0 →
     Adds (u .cells) (λ ts. nodeOf ts u ∷ []) m 0 m′ q → Begun r m′ q × (drop storeBytes m′ ≡ drop storeBytes m)
 unfolding nodesIn rowsIn
 begun r u starts m m′ q index adds =
-    let none-held : Holding (tasksIn r) m 0 = record { index = index; distinct = no-rows m; cells = λ j h. absurd (omega arith) } in
+    let none-held : Holding (tasksIn r) m 0 = record { index = index; distinct = distinct-none m; cells = λ j h. absurd (omega arith) } in
     let known = adds .known (tasksIn r) none-held (starts .cells (tasksIn r)) in
     let one : q ≤ maxNodes = by (ltb maxNodes q) refl (known .many) in
     (record { held = known .held one .0; nodes = known .held one .1 ∙ ap (λ (v : model.Node). v ∷ []) (starts .view (tasksIn r)) }, known .beyond)

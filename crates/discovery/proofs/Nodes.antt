@@ -4,7 +4,7 @@ use mathlib.Core.Bool.{Bool, true, false, cond, _||_}
 use mathlib.Core.List.{List, [], _∷_, _++_, map, map-append}
 use Prim.Native.Nat.{ℕ, suc, _+_, _*_, _≤_, _<_}
 use native.Mathlib.Omega.{arith}
-use lib.Dec.{ltb}
+use lib.Dec.{T, ltb}
 use lib.Seq.{getD-append-seam}
 use lib.ListN.{length, getD, length-append, length-map, List·getD-append}
 use borrow.Author.Tests.{ltb-true, ltb-false, lt-ltb, le-ltb}
@@ -22,7 +22,7 @@ use Rattle.store.specs.declared.Found.{Found}
 use Rattle.store.specs.declared.Found.the-variants.{Full, At}
 use Rattle.store.specs.Store.{rowBytes, maxRows, rowAt, rowsIn, indexIn, Distinct, Indexed, rowsWith, foundIn, countAfter, Kept}
 use Rattle.store.proofs.Rows.{rows-length, rows-at}
-use Rattle.model.proofs.Tests.{same-numbers}
+use Rattle.model.proofs.Tests.{is-true, holds, same-test, same-numbers}
 use Rattle.discovery.specs.Discovery.{rowOf, nodeIn, viewOf, nodesIn, Holding, addNode, countIn, Known, Stored, Adds}
 use Rattle.discovery.proofs.Rows.{row-node, node-row, row-length}
 
@@ -30,11 +30,6 @@ use Rattle.discovery.proofs.Rows.{row-node, node-row, row-length}
 pub record Row (ts : Tasks) (row : List ℕ) : Type 0 where
   pub size : length row ≡ rowBytes
   pub cells : Cells ts cellCount (nodeIn row .cells)
-
-same-tests : (a b : Bool) → (a ≡ true → b ≡ true) → (b ≡ true → a ≡ true) → a ≡ b
-same-tests true b f g = sym (f refl)
-same-tests false true f g = g refl
-same-tests false false f g = refl
 
 ltb-suc : (a b : ℕ) → ltb (suc a) (suc b) ≡ ltb a b
 ltb-suc a b = by (ltb a b) refl
@@ -46,18 +41,19 @@ ltb-suc a b = by (ltb a b) refl
 module _ (ts : Tasks) (u : Node) (fits : Cells ts cellCount (u .cells)) where
   -- rows are equal just if the nodes of the model are
   pub row-view : (row : List ℕ) → Row ts row → sameNode (nodeOf ts u) (viewOf ts row) ≡ sameNumbers row (rowOf u)
-  row-view row ok = same-tests (sameNode (nodeOf ts u) (viewOf ts row)) (sameNumbers row (rowOf u)) to from
+  row-view row ok = same-test (sameNode (nodeOf ts u) (viewOf ts row)) (sameNumbers row (rowOf u)) to from
     where
-      to : sameNode (nodeOf ts u) (viewOf ts row) ≡ true → sameNumbers row (rowOf u) ≡ true
+      to : T (sameNode (nodeOf ts u) (viewOf ts row)) → T (sameNumbers row (rowOf u))
       to h =
-          let same = same-view ts u (nodeIn row) fits (ok .cells) .0 (same-node (nodeOf ts u) (viewOf ts row) .0 h) in
+          let same = same-view ts u (nodeIn row) fits (ok .cells) .0 (same-node (nodeOf ts u) (viewOf ts row) .0 (is-true _ h)) in
           let fields : rowOf u ≡ rowOf (nodeIn row) = λ i. same .0 i ++ (same .1 i ∷ same .2 i ∷ []) in
-          same-numbers row (rowOf u) .1 (sym (fields ∙ row-node row (ok .size)))
+          holds (same-numbers row (rowOf u) .1 (sym (fields ∙ row-node row (ok .size))))
 
-      from : sameNumbers row (rowOf u) ≡ true → sameNode (nodeOf ts u) (viewOf ts row) ≡ true
+      from : T (sameNumbers row (rowOf u)) → T (sameNode (nodeOf ts u) (viewOf ts row))
       from h =
-          same-node (nodeOf ts u) (viewOf ts row) .1
-          (sym (ap (viewOf ts) (same-numbers row (rowOf u) .0 h) ∙ ap (nodeOf ts) (node-row u (fits .size))))
+          holds
+          (same-node (nodeOf ts u) (viewOf ts row) .1
+          (sym (ap (viewOf ts) (same-numbers row (rowOf u) .0 (is-true _ h)) ∙ ap (nodeOf ts) (node-row u (fits .size)))))
 
   -- a node is among those of the rows just if its row is found
   pub among-index : (rows : List (List ℕ)) → ((j : ℕ) → j < length rows → Row ts (getD rows j [])) →
