@@ -16,7 +16,8 @@ use Rattle.policy.specs.View.{Tasks, tasksIn}
 use Rattle.policy.specs.declared.Rules.{Rules}
 use Rattle.graph.specs.Outcomes.{patternIn}
 use Rattle.graph.specs.Label.{orderIn}
-use Rattle.discovery.specs.Discovery.{nodesIn, Holding, addNode, Known, Stored, Adds, nodesWith, Explored, edgesBy, edgesBelow}
+use Rattle.graph.specs.View.{addNode}
+use Rattle.discovery.specs.Discovery.{nodesIn, Holding, Known, Stored, Adds, nodesWith, Explored, edgesBy, edgesBelow}
 
 -- none is lost
 add-longer : (ns : List model.Node) (v : model.Node) → length ns ≤ length (addNode ns v)

@@ -11,11 +11,11 @@ use Rattle.policy.specs.View.{Tasks, jobsOf, tasksIn, PlanFor, Slotted}
 use Rattle.policy.specs.declared.Rules.{Rules}
 use Rattle.policy.specs.declared.Done.{Done}
 use Rattle.graph.specs.Outcomes.{note}
-use Rattle.graph.specs.View.{nodeOf}
+use Rattle.graph.specs.View.{nodeOf, addNode}
 use Rattle.graph.specs.declared.Node.{Node}
 use Rattle.graph.proofs.Outcomes.{firsts}
 use Rattle.graph.proofs.Adding.{add-patterns}
-use Rattle.discovery.specs.Discovery.{nodesIn, Holding, addNode, Known, Adds, nodesWith, Explored}
+use Rattle.discovery.specs.Discovery.{nodesIn, Holding, Known, Adds, nodesWith, Explored}
 
 -- the nodes of these patterns are those that the label leads to
 pub label-explored : (r : Rules) (u : Node) (l s : ℕ) (d : Done) (ps : List ℕ) (m : List ℕ) (n : ℕ) (m′ : List ℕ) (q : ℕ) →

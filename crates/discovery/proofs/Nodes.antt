@@ -14,7 +14,7 @@ use Rattle.model.specs.Limits.{maxNodes}
 use Rattle.model.specs.Lists.{sameNumbers}
 use Rattle.theory.proofs.Nodes.{same-node}
 use Rattle.policy.specs.View.{Tasks, cellCount, Cells}
-use Rattle.graph.specs.View.{nodeOf}
+use Rattle.graph.specs.View.{nodeOf, addNode}
 use Rattle.graph.specs.declared.Node.{Node}
 use Rattle.graph.proofs.View.{same-view}
 use Rattle.words.proofs.Memory.{part-length}
@@ -23,7 +23,7 @@ use Rattle.store.specs.declared.Found.the-variants.{Full, At}
 use Rattle.store.specs.Store.{rowBytes, maxRows, rowAt, rowsIn, indexIn, Distinct, Indexed, rowsWith, foundIn, countAfter, Kept}
 use Rattle.store.proofs.Rows.{rows-length, rows-at}
 use Rattle.model.proofs.Tests.{is-true, holds, same-test, same-numbers}
-use Rattle.discovery.specs.Discovery.{rowOf, nodeIn, viewOf, nodesIn, Holding, addNode, countIn, Known, Stored, Adds}
+use Rattle.discovery.specs.Discovery.{rowOf, nodeIn, viewOf, nodesIn, Holding, countIn, Known, Stored, Adds}
 use Rattle.discovery.proofs.Rows.{row-node, node-row, row-length}
 
 -- a row of a node whose cells a node can hold

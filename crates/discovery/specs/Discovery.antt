@@ -12,7 +12,7 @@ use Rattle.model.specs.Plan.{Plan, nextIn}
 use Rattle.plan.specs.View.{arcsIn}
 use Rattle.policy.specs.View.{Tasks, cellCount, jobsOf, Cells, tasksIn, PlanFor}
 use Rattle.policy.specs.declared.Rules.{Rules}
-use Rattle.graph.specs.View.{nodeOf, Planned}
+use Rattle.graph.specs.View.{nodeOf, addNode, Planned}
 use Rattle.graph.specs.declared.Node.{Node}
 use Rattle.store.specs.declared.Found.{Found}
 use Rattle.store.specs.declared.Found.the-variants.{Full, At}
@@ -47,10 +47,6 @@ pub record Holding (ts : Tasks) (memory : List ℕ) (n : ℕ) : Type 0 where
   pub index : Indexed memory n
   pub distinct : Distinct (rowsIn memory n)
   pub cells : (j : ℕ) → j < n → Cells ts cellCount (nodeIn (rowAt memory j) .cells)
-
--- a node joins those known unless it is among them
-abbrev pub addNode : List model.Node → model.Node → List model.Node
-addNode ns v = cond (model.among v ns) ns (ns ++ (v ∷ []))
 
 -- the number of nodes where there are too many, and the number after an answer
 abbrev pub tooMany : ℕ

@@ -11,13 +11,10 @@ use Rattle.model.specs.Graph.{Node, add, among, choices, joined, edgeOf}
 use Rattle.model.specs.Plan.{Plan}
 use Rattle.model.specs.Slot.{slot}
 use Rattle.theory.proofs.Nodes.{among-mem}
+use Rattle.graph.specs.View.{addNode}
 use Rattle.graph.proofs.Outcomes.{isIn, isIn-mem, addFirst, firsts}
 
--- a node joins those known unless it is among them
-abbrev pub addNode : List Node → Node → List Node
-addNode ns v = cond (among v ns) ns (ns ++ (v ∷ []))
-
--- it is then among them, and so are those that were
+-- a node that joins is then among them, and so are those that were
 add-own : (ns : List Node) (v : Node) → among v (addNode ns v) ≡ true
 add-own ns v = by (among v ns) refl
   where

@@ -1,6 +1,7 @@
 -- What a node stands for.
 use mathlib.Core.Path.{_≡_}
-use mathlib.Core.List.{List}
+use mathlib.Core.Bool.{cond}
+use mathlib.Core.List.{List, [], _∷_, _++_}
 use Prim.Native.Nat.{ℕ}
 use Rattle.model.specs.Graph as model
 use Rattle.model.specs.Plan.{Plan, IsSound}
@@ -11,6 +12,10 @@ use Rattle.graph.specs.declared.Node.{Node}
 
 abbrev pub nodeOf : Tasks → Node → model.Node
 nodeOf ts u = record { jobs = jobsOf ts (u .cells); taken = u .taken; state = u .state }
+
+-- a node joins those known unless it is among them
+abbrev pub addNode : List model.Node → model.Node → List model.Node
+addNode ns v = cond (model.among v ns) ns (ns ++ (v ∷ []))
 
 -- the start node, whatever the tasks
 pub record Starts (u : Node) : Type 0 where
