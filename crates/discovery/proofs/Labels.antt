@@ -10,7 +10,6 @@ use Rattle.model.specs.Slot as model-slot
 use Rattle.policy.specs.View.{Tasks, jobsOf, tasksIn, PlanFor, Slotted}
 use Rattle.policy.specs.declared.Rules.{Rules}
 use Rattle.policy.specs.declared.Done.{Done}
-use Rattle.graph.specs.Outcomes.{note}
 use Rattle.graph.specs.View.{nodeOf, addNode}
 use Rattle.graph.specs.declared.Node.{Node}
 use Rattle.graph.proofs.Outcomes.{firsts}

@@ -5,7 +5,6 @@ use native.Mathlib.Omega.{arith}
 use lib.ListN.{length, drop}
 use borrow.Author.Needs.{needs}
 use borrow.Author.Tests.{not-true, not-false}
-use Rattle.model.specs.Certificate.{Step}
 use Rattle.model.specs.Check.{follow}
 use Rattle.model.specs.Limits.{maxTasks, maxValue, maxStates}
 use Rattle.model.specs.Plan.{Plan}
