@@ -1,6 +1,6 @@
 -- The limit of a potential, and the smallest one. Assumes nothing.
 use mathlib.Core.Path.{_≡_, refl, sym, ap, _∙_}
-use mathlib.Core.Bool.{Bool, true, false, cond, _&&_}
+use mathlib.Core.Bool.{Bool, true, false, cond}
 use mathlib.Core.List.{List}
 use mathlib.Core.Logic.{⊎-elim}
 use Prim.Native.Nat.{ℕ, _+_, _-_, _*_, _≤_, _<_}
@@ -9,7 +9,7 @@ use native.Mathlib.Numerals.{add-one}
 use native.Mathlib.Omega.{arith}
 use lib.Dec.{T, leb→le, le→leb}
 use lib.IntN.{ℤ, pos, negsuc, natAbs, _-ℤ_}
-use lib.ListN.{length, getD, drop, drop-of-length-le}
+use lib.ListN.{length, drop, drop-of-length-le}
 use lib.Seq.{drop-cons}
 use lib.Signed.{leZ, ltZ, _≤ℤ_}
 use borrow.Author.Tests.{leb-true, lt-leb}
@@ -22,14 +22,6 @@ use Rattle.model.specs.Lists.{all}
 use Rattle.model.proofs.Lists.{mem-getD}
 use Rattle.model.proofs.Tests.{all-each, holds, fails, same-test}
 use Rattle.words.proofs.Signed.{up, dn, up-or-dn, nat-eq, up-sub, natAbs-is, leZ-iff, ltZ-iff, ≤ℤ-iff, ≤ℤ-trans}
-
--- a test of all that are left
-module _ {A : Type 0} (f : A → Bool) (l : List A) (d : A) where
-  pub all-from : (i : ℕ) → i < length l → all f (drop i l) ≡ (f (getD l i d) && all f (drop (i + 1) l))
-  all-from i h = ap (all f) (drop-cons l i d h) ∙ ap (λ (k : ℕ). f (getD l i d) && all f (drop k l)) (sym (add-one i))
-
-  pub all-done : (i : ℕ) → length l ≤ i → all f (drop i l) ≡ true
-  all-done i h = ap (all f) (drop-of-length-le l h)
 
 -- ---- the limit
 

@@ -1,3 +1,4 @@
 pub mod Lists
 pub mod Plan
 pub mod Tests
+pub mod All

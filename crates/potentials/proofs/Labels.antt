@@ -2,7 +2,7 @@
 use mathlib.Core.Path.{_≡_, refl, sym, ap, ap₂, subst, _∙_}
 use mathlib.Core.Bool.{Bool, true}
 use mathlib.Core.List.{List, List·Memᴰ, Memᴰ·cast, Memᴰ·map}
-use mathlib.Core.Option.{Option, none, some}
+use mathlib.Core.Option.{Option, some}
 use Prim.Native.Nat.{ℕ, _-_, _*_, _/_, _≤_, _<_}
 use native.Mathlib.Omega.{arith}
 use lib.IntN.{ℤ, pos, natAbs, _+ℤ_, _-ℤ_}
@@ -22,6 +22,7 @@ use Rattle.model.specs.Slot as model-slot
 use Rattle.model.specs.Slot.{slot}
 use Rattle.model.proofs.Lists.{mem-getD, mem-upFrom}
 use Rattle.model.proofs.Tests.{all-each}
+use Rattle.model.proofs.All.{all-same, all-map}
 use Rattle.theory.proofs.Edges.{EdgeFrom, mem-choices, mem-edges}
 use Rattle.theory.proofs.Nodes.{nodes-closed}
 use Rattle.theory.proofs.Sound.{sound-plan, label-below}
@@ -37,7 +38,6 @@ use Rattle.graph.specs.declared.Noted.{Noted}
 use Rattle.plan.proofs.View.{next-some}
 use Rattle.potentials.specs.declared.Claim.{Claim}
 use Rattle.potentials.specs.Potentials.{Test, Numbered, withPattern, gainIn, patternOk, maxCharge, maxHigh, Charged}
-use Rattle.potentials.proofs.Upward.{all-same, all-map}
 use Rattle.potentials.proofs.Greatest.{order-choice, order-scored, greatest}
 use Rattle.discovery.proofs.Answer.{node-state}
 use Rattle.potentials.proofs.Numbers.{nodes-few, node-mem, node-index, index-below}

@@ -1,4 +1,3 @@
-pub mod Upward
 pub mod Greatest
 pub mod Numbers
 pub mod Weights

@@ -12,6 +12,7 @@ use Rattle.model.specs.Check.{edgeOk, edgesOkFrom}
 use Rattle.model.specs.Graph.{Node, start, edgesAt, edges, nodes}
 use Rattle.model.specs.Lists.{all, upFrom}
 use Rattle.model.specs.Plan.{Plan}
+use Rattle.model.proofs.All.{all-flatMap}
 use Rattle.policy.specs.View.{tasksIn, Ruled}
 use Rattle.policy.specs.declared.Rules.{Rules}
 use Rattle.graph.specs.View.{nodeOf}
@@ -19,7 +20,6 @@ use Rattle.store.specs.Store.{rowAt}
 use Rattle.discovery.specs.Discovery.{nodeIn}
 use Rattle.potentials.specs.declared.Claim.{Claim}
 use Rattle.potentials.specs.Potentials.{Test}
-use Rattle.potentials.proofs.Upward.{all-flatMap}
 use Rattle.discovery.proofs.Held.{held-count, held-node}
 
 -- every edge of nodes, by a test of each node's number

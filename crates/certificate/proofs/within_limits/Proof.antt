@@ -11,9 +11,9 @@ use mir.Facts.{toZ-ofZ}
 use borrow.Author.Tests.{not-true, not-false}
 use Rattle.model.specs.Check.{withinLimit}
 use Rattle.model.specs.Lists.{all}
+use Rattle.model.proofs.All.{all-from, all-done}
 use Rattle.certificate.specs.View.{headSize, potentialSize, potentialIn, potentialsIn, certificateOf}
 use Rattle.certificate.proofs.Runs.{items-length}
-use Rattle.certificate.proofs.Least.{all-from, all-done}
 use Rattle.certificate.proofs.within_limits.Statement.{statement}
 use Rattle.certificate.proofs.within_limits.Tie as tie
 

@@ -10,6 +10,7 @@ use Rattle.model.specs.Check.{edgeOk}
 use Rattle.model.specs.Graph.{edges, nodes}
 use Rattle.model.specs.Lists.{all, upFrom}
 use Rattle.model.specs.Plan.{Plan}
+use Rattle.model.proofs.All.{all-next, all-stops}
 use Rattle.words.proofs.Memory.{part-length}
 use Rattle.policy.specs.View.{tasksIn}
 use Rattle.graph.specs.Outcomes.{noteRoom}
@@ -18,7 +19,6 @@ use Rattle.graph.specs.declared.Node.{Node}
 use Rattle.store.specs.Store.{rowBytes, rowAt}
 use Rattle.discovery.specs.Discovery.{nodeIn}
 use Rattle.potentials.specs.Potentials.{Test}
-use Rattle.potentials.proofs.Upward.{all-next, all-stops}
 use Rattle.potentials.proofs.Nodes.{rowOk, edges-rows}
 use Rattle.potentials.proofs.edges_hold.Statement.{statement}
 use Rattle.potentials.proofs.edges_hold.Tie as tie

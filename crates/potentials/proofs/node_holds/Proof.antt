@@ -9,12 +9,12 @@ use borrow.Author.Tests.{not-true, not-false}
 use Rattle.model.specs.Certificate.{Certificate}
 use Rattle.model.specs.Lists.{all, upFrom}
 use Rattle.model.specs.Plan.{Plan}
+use Rattle.model.proofs.All.{all-next, all-stops}
 use Rattle.policy.specs.View.{tasksIn}
 use Rattle.graph.specs.Outcomes.{noteRoom}
 use Rattle.graph.specs.View.{nodeOf}
 use Rattle.discovery.proofs.Growing.{labels-shifted}
 use Rattle.potentials.specs.Potentials.{Test}
-use Rattle.potentials.proofs.Upward.{all-next, all-stops}
 use Rattle.potentials.proofs.Nodes.{labelOk, node-labels}
 use Rattle.potentials.proofs.node_holds.Statement.{statement}
 use Rattle.potentials.proofs.node_holds.Tie as tie

@@ -13,9 +13,9 @@ use borrow.Author.Needs.{needs}
 use borrow.Author.Tests.{not-true, not-false}
 use Rattle.model.specs.Certificate.{Certificate, readCertificate}
 use Rattle.model.specs.Lists.{all, upFrom}
+use Rattle.model.proofs.All.{all-map, all-next, all-stops}
 use Rattle.graph.specs.Outcomes.{patternIn}
 use Rattle.potentials.specs.Potentials.{potentialOf, Findable, withPattern, scoreIn, gainIn, patternOk}
-use Rattle.potentials.proofs.Upward.{all-map, all-next, all-stops}
 use Rattle.potentials.proofs.Weights.{charge-small, bound-fits}
 use Rattle.potentials.proofs.outcomes_hold.Statement.{statement}
 use Rattle.potentials.proofs.outcomes_hold.Tie as tie
