@@ -56,11 +56,6 @@ sub-gain c =
     let start = c .before .before .before .before .before .before .before in
     omega (arith, score c, start .pre .noted (c .before .before .before .loop .k) (omega arith))
 
-times-requires : tie.Need-times-requires Inv-loop μ-loop
-times-requires c κs =
-    let start = c .before .before .before .before .before .before .before in
-    omega (arith, start .pre .fitsP)
-
 -- what is charged
 charge : (c : tie.After-times Inv-loop μ-loop) →
     let a = c .before .before .before .before .before .before .before .before .args in
@@ -69,6 +64,11 @@ charge c =
     let a = c .before .before .before .before .before .before .before .before .args in
     toZ-ofZ {w = w64} (record { sfits = c .times .ok }) ∙ c .times .ensures
     ∙ ap (λ (x : ℕ). pos (a .claim .p * (x - 1))) (score (c .before))
+
+times-requires : tie.Need-times-requires Inv-loop μ-loop
+times-requires c κs =
+    let start = c .before .before .before .before .before .before .before in
+    omega (arith, start .pre .fitsP)
 
 -- the bound, before it is stored
 bound : (c : tie.After-times Inv-loop μ-loop) →
