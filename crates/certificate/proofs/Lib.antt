@@ -1,4 +1,3 @@
-pub mod Divisors
 pub mod Forms
 pub mod Pieces
 pub mod Placed

@@ -2,7 +2,7 @@
 -- Assumes nothing.
 use mathlib.Core.Path.{_≡_, refl, sym, _∙_, ap, ap₂}
 use mathlib.Core.Bool.{Bool, true, false}
-use mathlib.Core.List.{List, [], _∷_, _++_, map, map-map, foldl, foldl-append, List·Memᴰ, List·Memᴰ·head, List·Memᴰ·tail}
+use mathlib.Core.List.{List, [], _∷_, _++_, map, map-map, foldl, foldl-append, List·Memᴰ}
 use Prim.Native.Nat.{ℕ, zero, suc, _+_, _-_, _/_, _%_, _^_, _<_, _≤_}
 use native.Mathlib.Nat.{add-zero, zero-add, add-assoc, div-one}
 use native.Mathlib.Numerals.{add-one}
@@ -20,7 +20,7 @@ use Rattle.model.specs.Lists.{consIf, keep, flatMap, upFrom, ones}
 use Rattle.model.specs.Masks.{maskCount, group, groupsBelow, maskTable, groupStart, masksOf}
 use Rattle.model.specs.Plan.{Task}
 use Rattle.model.specs.Slot.{noTask}
-use Rattle.model.proofs.Lists.{keep-keep, flatMap-append, mem-of-flatMap, mem-getD}
+use Rattle.model.proofs.Lists.{keep-keep, map-same, flatMap-append, mem-of-flatMap, mem-getD}
 use Rattle.masks.specs.Clear.{NextClear}
 use Rattle.masks.proofs.Groups.{groupBelow, length-table, mem-group, group-below, group-below-le, groupStart-le, group-below-from-one}
 use Rattle.theory.proofs.Edges.{mem-choices}
@@ -206,11 +206,6 @@ placed-padded xs (m ∷ ms) (suc k) j h h′ =
     let next : length xs + 1 ≡ length (xs ++ (m ∷ [])) = sym (length-append xs (m ∷ [])) in
     rw (set-append-seam xs 0 (replicate k 0) m, next, ← append-snoc xs m (replicate k 0))
     (placed-padded (xs ++ (m ∷ [])) ms k j (omega arith) (omega arith) ∙ append-snoc xs m (take k (ms ++ replicate j 0)))
-
-module _ {ℓ κ} {A : Type ℓ} {B : Type κ} where
-  map-same : (f g : A → B) (l : List A) → ((a : A) → List·Memᴰ a l → f a ≡ g a) → map f l ≡ map g l
-  map-same f g [] h = refl
-  map-same f g (x ∷ l) h = ap₂ (λ y k. y ∷ k) (h x (List·Memᴰ·head refl)) (map-same f g l (λ a m. h a (List·Memᴰ·tail m)))
 
 -- no mask yet
 abbrev pub chosenNone : ℕ → Chosen

@@ -1,12 +1,16 @@
--- Laws of the view of a node.
+-- Laws of the view of a node and of a plan.
 -- Assumes nothing.
-use mathlib.Core.Path.{_≡_, ap}
+use mathlib.Core.Path.{_≡_, refl, sym, ap}
 use mathlib.Core.Logic.{_↔_}
 use native.Mathlib.Omega.{arith}
 use Rattle.model.specs.Graph as model
-use Rattle.policy.specs.View.{Tasks, cellCount, Cells}
+use Rattle.model.specs.Plan.{IsSound}
+use Rattle.plan.specs.View.{planOf}
+use Rattle.plan.specs.declared.Plan.{Plan}
+use Rattle.policy.specs.View.{Tasks, cellCount, Cells, RulesOf}
+use Rattle.policy.specs.declared.Rules.{Rules}
 use Rattle.policy.proofs.Canonical.{view-injective}
-use Rattle.graph.specs.View.{nodeOf}
+use Rattle.graph.specs.View.{nodeOf, Planned}
 use Rattle.graph.specs.declared.Node.{Node}
 
 -- nodes whose cells a node can hold have equal views just if their fields are equal
@@ -20,3 +24,7 @@ same-view ts u v hu hv = (
   ),
   λ h. cc,
 )
+
+-- a plan that is read is one with its rules and its table of next states
+pub planned-of : (p : Plan) (r : Rules) → IsSound (planOf p) → RulesOf p r → Planned (planOf p) r (p .next)
+planned-of p r s of = record { for = record { tasks = sym (of .tasks); policy = sym (of .policy) }; arcs = refl; sound = s }

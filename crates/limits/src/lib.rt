@@ -22,10 +22,12 @@ pub const MAX_POTENTIAL: i64 = 1099511627776;
 // The labels of a trace.
 pub const MAX_LABELS: usize = 4096;
 
-// The least work memory, and the most bytes of a trace.
+// The least work memory, and the most bytes of a trace and of a certificate.
 pub const WORK_ROOM: usize = 65536;
 
 pub const TRACE_ROOM: usize = 12288;
+
+pub const CERTIFICATE_ROOM: usize = 15375;
 
 // The policies.
 pub const EDF: u8 = 1;

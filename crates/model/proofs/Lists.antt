@@ -92,6 +92,11 @@ module _ {ℓ} {A : Type ℓ} where
   place d (List·Memᴰ·tail m) = let r = place d m in (suc (r .0), omega (arith, r .1), r .2)
 
 module _ {ℓ κ} {A : Type ℓ} {B : Type κ} where
+  -- two functions that agree on the list
+  pub map-same : (f g : A → B) (l : List A) → ((a : A) → List·Memᴰ a l → f a ≡ g a) → map f l ≡ map g l
+  map-same f g [] h = refl
+  map-same f g (x ∷ l) h = ap₂ (λ y k. y ∷ k) (h x (List·Memᴰ·head refl)) (map-same f g l (λ a m. h a (List·Memᴰ·tail m)))
+
   pub flatMap-append : (f : A → List B) (l l′ : List A) → flatMap f (l ++ l′) ≡ flatMap f l ++ flatMap f l′
   flatMap-append f [] l′ = refl
   flatMap-append f (x ∷ l) l′ = ap (λ k. f x ++ k) (flatMap-append f l l′) ∙ sym (append-assoc (f x) (flatMap f l) (flatMap f l′))

@@ -61,7 +61,7 @@ module _ (ts : Tasks) (range : TasksInRange ts) (l taken : ℕ) (low : taken < m
       omega (arith, choice-noted ts range l taken low (r .0) (r .1), ap score (r .2))
 
   -- every choice's pattern is in the order
-  choice-order : (ms : List ℕ) → List·Memᴰ ms (choices ts l taken) → List·Memᴰ (patternOf ts range l taken low ms) order
+  pub choice-order : (ms : List ℕ) → List·Memᴰ ms (choices ts l taken) → List·Memᴰ (patternOf ts range l taken low ms) order
   unfolding firsts
   choice-order ms m =
       subst (List·Memᴰ (patternOf ts range l taken low ms)) (sym (noted-order ts range l taken low))

@@ -10,11 +10,11 @@ use borrow.Author.Tests.{le-ltb}
 use Rattle.model.specs.Check.{numberIn}
 use Rattle.model.specs.Graph as model
 use Rattle.model.specs.Graph.{start, nodes, tooLarge, sameNode}
-use Rattle.model.specs.Limits.{maxNodes}
-use Rattle.model.specs.Plan.{Plan}
+use Rattle.model.specs.Limits.{maxNodes, maxStates}
+use Rattle.model.specs.Plan.{Plan, IsSound}
 use Rattle.model.proofs.Lists.{mem-getD}
 use Rattle.model.proofs.Tests.{is-true, holds, same-test}
-use Rattle.theory.proofs.Nodes.{same-node, number-at}
+use Rattle.theory.proofs.Nodes.{same-node, number-at, number-getD, nodes-distinct}
 use Rattle.policy.specs.View.{Tasks, cellCount, Cells}
 use Rattle.graph.specs.View.{nodeOf}
 use Rattle.graph.specs.declared.Node.{Node}
@@ -22,6 +22,8 @@ use Rattle.store.specs.Store.{rowAt, rowsIn, indexIn}
 use Rattle.discovery.specs.Discovery.{rowOf, nodeIn, viewOf, nodesIn, Holding, Holds}
 use Rattle.discovery.proofs.Nodes.{Row, row-view, held-row}
 use Rattle.discovery.proofs.Held.{held-count, held-node}
+use Rattle.discovery.proofs.Answer.{node-state}
+use Rattle.potentials.specs.Potentials.{Numbered}
 
 -- the test of two nodes, the other way round
 same-node-back : (u v : model.Node) → sameNode u v ≡ sameNode v u
@@ -61,3 +63,22 @@ module _ (P : Plan) (ts : Tasks) (m : List ℕ) (n : ℕ) (held : Holds P ts m n
 
   pub index-below : (v : Node) → Cells ts cellCount (v .cells) → List·Memᴰ (nodeOf ts v) (nodes P) → indexIn (rowsIn m n) (rowOf v) < n
   index-below v fits mem = omega (arith, number-at (nodes P) (nodeOf ts v) start mem .0, node-index v fits, held-count ts m n (nodes P) (held .nodes))
+
+  -- the node of that number, and the number of that node
+  pub index-node : (v : Node) → Cells ts cellCount (v .cells) → List·Memᴰ (nodeOf ts v) (nodes P) →
+      getD (nodes P) (indexIn (rowsIn m n) (rowOf v)) start ≡ nodeOf ts v
+  index-node v fits mem = ap (λ (i : ℕ). getD (nodes P) i start) (sym (node-index v fits)) ∙ number-at (nodes P) (nodeOf ts v) start mem .1
+
+  pub index-is : (v : Node) → Cells ts cellCount (v .cells) → (i : ℕ) → i < n → nodeOf ts v ≡ getD (nodes P) i start →
+      indexIn (rowsIn m n) (rowOf v) ≡ i
+  index-is v fits i h e =
+      sym (node-index v fits) ∙ ap (numberIn (nodes P)) e
+      ∙ number-getD (nodes P) start (nodes-distinct P) i (omega (arith, held-count ts m n (nodes P) (held .nodes)))
+
+  -- ---- the node of a row
+
+  pub numbered-cells : (u : ℕ) (v : Node) → Numbered m n u v → Cells ts cellCount (v .cells)
+  numbered-cells u v at = subst (λ (x : Node). Cells ts cellCount (x .cells)) (sym (at .row)) (held .rows .cells u (at .below))
+
+  pub numbered-low : IsSound P → (u : ℕ) (v : Node) → Numbered m n u v → v .state < maxStates
+  numbered-low sound u v at = subst (λ (x : Node). x .state < maxStates) (sym (at .row)) (node-state P ts m n held sound u (at .below))

@@ -1,1 +1,2 @@
 pub mod Potentials
+pub mod Best

@@ -27,7 +27,7 @@ pub struct Claim {
 }
 
 // A gain at a price.
-fn times(price: u32, gain: u32) -> i64
+pub fn times(price: u32, gain: u32) -> i64
     requires { ⌜ price ≤ maxQ ⌝ }
     ensures { λ z. ⌜ z ≡ pos (price * gain) ⌝ }
 {

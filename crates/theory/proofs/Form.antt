@@ -205,7 +205,7 @@ certificate-read-back c f =
 -- ---- what the checker accepts
 
 -- a step has a mask for each task that a plan may have
-padded-length : (ms : List ℕ) → length (padded ms) ≡ maxTasks
+pub padded-length : (ms : List ℕ) → length (padded ms) ≡ maxTasks
 padded-length ms = length-take-le maxTasks (ms ++ replicate maxTasks 0) (simp (length-append, length-replicate) (omega arith))
 
 -- so the step of an edge has

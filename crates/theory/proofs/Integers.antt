@@ -3,12 +3,12 @@
 use mathlib.Core.Path.{_≡_, refl, subst}
 use mathlib.Core.Bool.{false}
 use mathlib.Core.Logic.{_⊎_, inl, inr}
-use Prim.Native.Nat.{ℕ, _+_, _≤_}
+use Prim.Native.Nat.{ℕ, _+_, _<_, _≤_}
 use native.Mathlib.Decide.{decLe}
 use native.Mathlib.Omega.{arith}
 use lib.IntN.{ℤ, pos, negsuc, _+ℤ_, _-ℤ_, natAbs}
-use lib.Signed.{leZ, _≤ℤ_}
-use Rattle.words.proofs.Signed.{up, dn, up-add, up-sub, up-or-dn, nat-eq, natAbs-is, leZ-iff, ≤ℤ-iff}
+use lib.Signed.{leZ, _≤ℤ_, _<ℤ_}
+use Rattle.words.proofs.Signed.{up, dn, up-add, up-sub, up-or-dn, nat-eq, natAbs-is, leZ-iff, ≤ℤ-iff, <ℤ-iff}
 use Rattle.model.proofs.Tests.{fails}
 
 -- a difference of sums is the sum of differences
@@ -60,3 +60,21 @@ not-less z w h = ≤ℤ-iff (pos 0) w .1 (omega (arith, ≤ℤ-iff z (z +ℤ w) 
 pub dn-none : (z : ℤ) → pos 0 ≤ℤ z → dn z ≡ 0
 dn-none (pos n) h = refl
 dn-none (negsuc n) h = absurd (h .le)
+
+-- a difference of numbers up to c is from −c to c
+pub sub-within : (a b c : ℕ) → a ≤ c → b ≤ c → ((pos a -ℤ pos b) ≤ℤ pos c) × (pos 0 ≤ℤ ((pos a -ℤ pos b) +ℤ pos c))
+sub-within a b c h k =
+    let z = pos a -ℤ pos b in
+    let parts = up-sub (pos a) (pos b) in (
+      ≤ℤ-iff z (pos c) .1 (omega (arith, parts)),
+      ≤ℤ-iff (pos 0) (z +ℤ pos c) .1 (omega (arith, parts, up-add z (pos c))),
+    )
+
+-- a difference with less to take from and more to take is no greater
+pub sub-mono : {a b c d : ℕ} → a ≤ c → d ≤ b → (pos a -ℤ pos b) ≤ℤ (pos c -ℤ pos d)
+sub-mono {a} {b} {c} {d} h k =
+    ≤ℤ-iff (pos a -ℤ pos b) (pos c -ℤ pos d) .1 (omega (arith, up-sub (pos a) (pos b), up-sub (pos c) (pos d)))
+
+-- a difference below 0 takes more than there is
+pub sub-negative : (a b : ℕ) → (pos a -ℤ pos b) <ℤ pos 0 → a < b
+sub-negative a b h = omega (arith, <ℤ-iff (pos a -ℤ pos b) (pos 0) .0 h, up-sub (pos a) (pos b))

@@ -22,4 +22,12 @@ pub mod Form
 pub mod Reread
 pub mod Solved
 pub mod Long
+pub mod Upward
 pub mod Tree
+pub mod Measure
+pub mod Search
+pub mod Progress
+pub mod Divisors
+pub mod Fractions
+pub mod Circuits
+pub mod Settled

@@ -21,6 +21,7 @@ use Rattle.model.specs.Certificate.{Certificate, Step}
 use Rattle.model.specs.Check.{padded, isStep, findStep, Reached, follow, closes, cycleOk}
 use Rattle.model.proofs.Plan.{both}
 use Rattle.model.proofs.Tests.{true-and, same-numbers}
+use Rattle.theory.specs.Lightest.{stepOf}
 use Rattle.theory.proofs.Edges.{edge-determined}
 use Rattle.theory.proofs.Sound.{PlanSound}
 use Rattle.theory.proofs.Walks.{step-of}
@@ -35,10 +36,6 @@ take-padded ms h = take-take (length ms) maxTasks (ms ++ replicate maxTasks 0) h
 padded-same : (ms ns : List ℕ) → length ms ≡ length ns → length ms ≤ maxTasks → padded ms ≡ padded ns → ms ≡ ns
 padded-same ms ns e h p =
     sym (take-padded ms h) ∙ ap₂ (λ (n : ℕ) l. take n l) e p ∙ take-padded ns (omega arith)
-
--- the step of an edge
-abbrev pub stepOf : Edge → Step
-stepOf e = record { label = e .label; masks = padded (e .masks) }
 
 -- the only edge that fits a step is the one found
 find-only : (s : Step) (es : List Edge) (e : Edge) → List·Memᴰ e es → isStep s e ≡ true →

@@ -5,7 +5,7 @@ use Prim.Native.Nat.{_<_}
 use native.Mathlib.Nat.{mod-lt}
 use native.Mathlib.Omega.{arith}
 use Rattle.model.specs.Check.{gcd}
-use Rattle.certificate.proofs.Divisors.{gcd-zero, gcd-mod}
+use Rattle.theory.proofs.Divisors.{gcd-zero, gcd-mod}
 use Rattle.certificate.proofs.gcd.Statement.{statement}
 use Rattle.certificate.proofs.gcd.Tie as tie
 

@@ -1,23 +1,15 @@
 -- `checker::check_plan` meets its contract: too many nodes, or the certificate against them. Assumes nothing.
-use mathlib.Core.Path.{refl, sym, ap, _∙_}
+use mathlib.Core.Path.{sym, ap, _∙_}
 use native.Mathlib.Omega.{arith}
 use lib.ListN.{length}
 use borrow.Author.Needs.{needs}
 use Rattle.model.specs.Graph.{nodes}
-use Rattle.model.specs.Plan.{IsSound}
 use Rattle.plan.specs.View.{planOf}
-use Rattle.plan.specs.declared.Plan.{Plan}
-use Rattle.policy.specs.View.{RulesOf}
-use Rattle.policy.specs.declared.Rules.{Rules}
-use Rattle.graph.specs.View.{Planned}
+use Rattle.graph.proofs.View.{planned-of}
 use Rattle.discovery.specs.Discovery.{sizeOf}
 use Rattle.checker.proofs.Answers.{large, small}
 use Rattle.checker.proofs.check_plan.Statement.{statement}
 use Rattle.checker.proofs.check_plan.Tie as tie
-
--- the plan is one with its rules and its table of next states
-planned : (p : Plan) (r : Rules) → IsSound (planOf p) → RulesOf p r → Planned (planOf p) r (p .next)
-planned p r s of = record { for = record { tasks = sym (of .tasks); policy = sym (of .policy) }; arcs = refl; sound = s }
 
 rules-of-requires : tie.Need-rules-of-requires
 rules-of-requires c κs = search needs
@@ -33,7 +25,7 @@ discover-requires c κs =
     let rules = c .before .before .before .before .before in
     let start = rules .before .before .before in
     let p = start .args .plan in (
-      (rules .rules-of .ensures .ruled, record { plan = planOf p; planned = planned p (rules .rules-of .result) (start .pre .1) (rules .rules-of .ensures) }),
+      (rules .rules-of .ensures .ruled, record { plan = planOf p; planned = planned-of p (rules .rules-of .result) (start .pre .1) (rules .rules-of .ensures) }),
       (omega (arith, start .pre .2), omega (arith, c .before .before .before .note-space .ensures)),
     )
 
@@ -52,7 +44,7 @@ check-certificate-requires c κs =
     let rules = found .before .before .before .before .before .before in
     let start = rules .before .before .before in
     let p = start .args .plan in
-    let of = planned p (rules .rules-of .result) (start .pre .1) (rules .rules-of .ensures) in (
+    let of = planned-of p (rules .rules-of .result) (start .pre .1) (rules .rules-of .ensures) in (
       rules .rules-of .ensures .ruled,
       record { plan = planOf p; planned = of; holds = found .discover .ensures .0 .held _ (c .before .before .before .before .n .given .1) (planOf p) of },
       omega (arith, found .before .before .before .before .note-space .ensures, found .discover .kept .1 .1 .0),
@@ -67,7 +59,7 @@ returns c =
     let rules = found .before .before .before .before .before .before in
     let start = rules .before .before .before in
     let p = start .args .plan in
-    let of = planned p (rules .rules-of .result) (start .pre .1) (rules .rules-of .ensures) in
+    let of = planned-of p (rules .rules-of .result) (start .pre .1) (rules .rules-of .ensures) in
     large (planOf p) (length (nodes (planOf p))) (start .args .s .now) (sym (ap sizeOf (c .enum-told .given .1)) ∙ found .discover .ensures .0 .answer (planOf p) of)
 
 same-length-2 : tie.Need-same-length-2
@@ -80,7 +72,7 @@ returns-2 c =
     let rules = found .before .before .before .before .before .before in
     let start = rules .before .before .before in
     let p = start .args .plan in
-    let of = planned p (rules .rules-of .result) (start .pre .1) (rules .rules-of .ensures) in
+    let of = planned-of p (rules .rules-of .result) (start .pre .1) (rules .rules-of .ensures) in
     let count = c .before .before .before .before .before .before .n .given .1 in
     call .check-certificate .ensures .0 (planOf p) of (found .discover .ensures .0 .held _ count (planOf p) of)
     ∙ small (planOf p) (length (nodes (planOf p))) _ (start .args .s .now) (sym (ap sizeOf count) ∙ found .discover .ensures .0 .answer (planOf p) of)

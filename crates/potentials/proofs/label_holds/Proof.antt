@@ -12,8 +12,10 @@ use Rattle.model.specs.Certificate.{Certificate, readCertificate}
 use Rattle.model.specs.Check.{potentialAt}
 use Rattle.model.specs.Masks.{maskCount}
 use Rattle.potentials.specs.Potentials.{maxCharge}
+use Rattle.policy.specs.View.{tasksIn}
+use Rattle.potentials.proofs.Numbers.{numbered-cells, numbered-low}
 use Rattle.potentials.proofs.Weights.{charge-small, high-fits}
-use Rattle.potentials.proofs.Labels.{node-cells, node-low, potential-small, label-not, label-charged, label-tested}
+use Rattle.potentials.proofs.Labels.{potential-small, label-not, label-charged, label-tested}
 use Rattle.potentials.proofs.label_holds.Statement.{statement}
 use Rattle.potentials.proofs.label_holds.Tie as tie
 
@@ -22,7 +24,7 @@ next-state-requires c κs =
     let start = c .before .before .before in
     let a = start .args in
     let g = start .pre .1 in
-    node-low (g .plan) (g .certificate) (a .rules) (a .next .now) (a .m .now) (a .s .now) (a .claim) (g .test) (a .u) (a .node) (start .pre .2)
+    numbered-low (g .plan) (tasksIn (a .rules)) (a .m .now) (a .claim .n) (g .test .holds) (g .test .planned .sound) (a .u) (a .node) (start .pre .2)
 
 returns : tie.Need-returns
 returns c =
@@ -41,7 +43,7 @@ reach-requires c κs =
     let a = start .args in
     let g = start .pre .1 in (
       start .pre .0,
-      node-cells (g .plan) (g .certificate) (a .rules) (a .next .now) (a .m .now) (a .s .now) (a .claim) (g .test) (a .u) (a .node) (start .pre .2),
+      numbered-cells (g .plan) (tasksIn (a .rules)) (a .m .now) (a .claim .n) (g .test .holds) (a .u) (a .node) (start .pre .2),
       start .pre .3,
     )
 
