@@ -1,0 +1,4 @@
+pub mod Written
+pub mod Frames
+pub mod Climb
+pub mod Cleared
