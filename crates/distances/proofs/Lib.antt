@@ -1,0 +1,10 @@
+pub mod Rows
+pub mod Advances
+pub mod Relaxed
+pub mod Targets
+pub mod Tries
+pub mod Admitted
+pub mod Marks
+pub mod Labels
+pub mod Nodes
+pub mod Passes

@@ -1,0 +1,96 @@
+-- `distances::settle` meets its contract: passes until nothing moves. Assumes nothing.
+use mathlib.Core.Path.{_≡_, refl, _∙_}
+use native.Mathlib.Omega.{arith}
+use lib.ListN.{length, drop}
+use Rattle.model.specs.Plan.{Plan}
+use Rattle.graph.specs.Outcomes.{noteRoom}
+use Rattle.distances.specs.Distances.{Priced, Sought}
+use Rattle.distances.proofs.Passes.{Passed, ahead, passed-none, passed-sought, passed-more, pass-less, begin-sought, passed-end}
+use Rattle.distances.proofs.settle.Statement.{statement}
+use Rattle.distances.proofs.settle.Tie as tie
+
+abbrev Inv-loop : tie.InvT-loop
+Inv-loop claim next rules notes₀ m₀ moved₀ steps₀ notes m moved steps =
+    (length notes ≡ length notes₀) × (length m ≡ length m₀)
+    × ((P : Plan) → Sought P rules next m₀ claim → Passed P claim m₀ m moved steps)
+    × (drop noteRoom notes ≡ drop noteRoom notes₀)
+
+abbrev μ-loop : tie.MeasureT-loop
+μ-loop claim next rules notes₀ m₀ moved₀ steps₀ notes m moved steps = ahead (claim .n) m moved
+
+begin-requires : tie.Need-begin-requires Inv-loop μ-loop
+begin-requires c κs = c .before .before .before .pre .1 .priced .room
+
+loop-holds : tie.Need-loop-holds Inv-loop μ-loop
+loop-holds c = (refl, refl, λ P s. passed-none (s .search), refl)
+
+-- a plan is searched when the passes begin
+sought : (c : tie.At-loop Inv-loop μ-loop) →
+    let a = c .before .before .before .before .before .before .before .args in
+    (P : Plan) → Priced P (a .rules) (a .next .now) (a .m .now) (a .claim) →
+    Sought P (a .rules) (a .next .now) (c .before .before .before .begin .last .0) (a .claim)
+sought c P = begin-sought (c .before .before .before .begin .ensures)
+
+pass-requires : tie.Need-pass-requires Inv-loop μ-loop
+pass-requires c κs =
+    let head = c .before .before .before in
+    let start = head .before .before .before .before .before .before .before in
+    let pricing = start .pre .1 in
+    let s = sought head (pricing .plan) (pricing .priced) in (
+      start .pre .0,
+      record { plan = pricing .plan; sought = passed-sought (head .loop .inv .2 (pricing .plan) s) s (c .before .before .loop-test .taken) },
+      omega (arith, head .loop .inv .0, start .pre .2),
+    )
+
+loop-less : tie.Need-loop-less Inv-loop μ-loop
+loop-less c =
+    let call = c .before .before .before .before in
+    let test = call .before .before .before in
+    let head = test .before in
+    let pricing = head .before .before .before .before .before .before .before .pre .1 in
+    let s = sought head (pricing .plan) (pricing .priced) in
+    let p = head .loop .inv .2 (pricing .plan) s in
+    pass-less (test .loop-test .taken) (call .pass .ensures .0 (pricing .plan) (passed-sought p s (test .loop-test .taken)))
+
+loop-again : tie.Need-loop-again Inv-loop μ-loop
+loop-again c =
+    let call = c .before .before .before .before in
+    let test = call .before .before .before in
+    let l = test .before .loop in
+    let again = test .loop-test .taken in (
+      call .pass .kept .1 .1 .1 .0 ∙ l .inv .0,
+      call .pass .kept .1 .1 .1 .1 .0 ∙ l .inv .1,
+      λ P s.
+          let p = l .inv .2 P s in
+          passed-more p again (call .pass .ensures .0 P (passed-sought p s again)),
+      call .pass .ensures .1 ∙ l .inv .3,
+    )
+
+same-length : tie.Need-same-length Inv-loop μ-loop
+same-length c = c .before .loop .inv .0
+
+same-length-2 : tie.Need-same-length-2 Inv-loop μ-loop
+same-length-2 c =
+    let head = c .before in
+    head .loop .inv .1 ∙ head .before .before .before .begin .kept .0
+
+returns : tie.Need-returns Inv-loop μ-loop
+returns c =
+    let head = c .before in
+    let l = head .loop in
+    (λ P priced. passed-end (head .before .before .before .begin .ensures) (l .inv .2 P (sought head P priced)) (c .loop-test .left), l .inv .3)
+
+pub settle-spec : {M : Type 1} → statement M
+settle-spec =
+    tie.close
+    (tie.spec
+    Inv-loop
+    μ-loop
+    begin-requires
+    loop-holds
+    pass-requires
+    loop-less
+    loop-again
+    same-length
+    same-length-2
+    returns)

@@ -1,0 +1,243 @@
+// The search for the distances of a plan's nodes at a fraction: passes over the edges, until none gives a smaller distance or a cycle is
+// found that costs less than 0.
+use graph::Node;
+use links::Link;
+use links::Way;
+use policy::Rules;
+use potentials::Claim;
+ghost use mathlib.Core.Path.{_≡_};
+ghost use mathlib.Core.Bool.{true, _||_};
+ghost use Prim.Native.Nat.{_<_, _≤_};
+ghost use lib.Dec.{eqb};
+ghost use lib.ListN.{length, drop};
+ghost use lib.Signed.{ltZ};
+ghost use Rattle.model.specs.Plan.{Plan};
+ghost use Rattle.policy.specs.View.{Ruled};
+ghost use Rattle.graph.specs.Outcomes.{noteRoom};
+ghost use Rattle.potentials.specs.Potentials.{Numbered};
+ghost use Rattle.links.specs.Links.{unknown, stateIn};
+ghost use Rattle.distances.specs.Distances.{Priced, Pricing, Sought, Seeking, Offer, Offered, Relaxes, highOf, Offers, Offering, RelaxesOne, RelaxesAll, RelaxesLabel, RelaxesNode, Passes, Settles};
+
+// What trying edges did: whether a distance has moved, and the steps of a cycle that was found, 0 for none.
+pub struct Tried {
+    pub moved: bool,
+    pub steps: usize,
+}
+
+// Where a label leads from a node: so many noted patterns, each with the policy's cells and gain and the automaton's state.
+struct Outcomes {
+    label: u8,
+    count: usize,
+    cells: [u8; policy::CELLS],
+    state: u8,
+    kept: u32,
+}
+
+// Whether a distance is smaller than that of a link, or the first.
+fn is_shorter(link: Link, z: i64) -> bool
+    ensures { λ b. ⌜ b ≡ (eqb (link .mark) unknown || ltZ z (link .distance)) ⌝ }
+{
+    if link.mark == links::UNKNOWN {
+        return true;
+    }
+    z < link.distance
+}
+
+// Tries the edge of a label from u to v, by which v is at the distance z.
+fn relax(m: &mut [u8], u: usize, label: u8, v: usize, z: i64) -> Tried
+    requires { ⌜ Offered (now m) u label v z ⌝ }
+    ensures { λ t. ⌜ ((P : Plan) (claim : Claim) → Offer P claim (now (m .entry)) u label v z → Relaxes P claim u v z (now (m .entry)) (now (m .exit)) t) ⌝ }
+{
+    if !is_shorter(links::link_to(m, v), z) {
+        return Tried {
+            moved: false,
+            steps: 0,
+        };
+    }
+    let Way::Above(j) = links::way_up(m, u, v) else {
+        links::put_link(
+            m,
+            v,
+            Link {
+                distance: z,
+                parent: u,
+                label,
+                mark: links::WAITING,
+            },
+        );
+        return Tried {
+            moved: true,
+            steps: 0,
+        };
+    };
+    links::put_cycle(m, u, label, j);
+    Tried {
+        moved: false,
+        steps: j + 1,
+    }
+}
+
+// Tries the k-th noted outcome of a label from u: `high` is u's distance with the policy's weight.
+fn relax_outcome(
+    claim: Claim,
+    u: usize,
+    out: Outcomes,
+    high: i64,
+    k: usize,
+    notes: &[u8],
+    m: &mut [u8],
+) -> Tried
+    requires { ⌜ Offering claim (now m) (now notes) u out × (k < out .count) × (high ≡ highOf claim (now m) u out) ⌝ }
+    ensures { λ t. ⌜ ((P : Plan) → Offers P claim (now (m .entry)) (now (notes .entry)) u out → RelaxesOne P claim u out k (now (notes .entry)) (now (m .entry)) (now (m .exit)) t) ⌝ }
+{
+    let taken = graph::noted_pattern(notes, out.count, k);
+    let gain = graph::best_score(notes, taken as usize) - 1;
+    let z = high - potentials::times(claim.p, gain);
+    let cells = out.cells;
+    let row = discovery::row_of(Node {
+        cells,
+        taken,
+        state: out.state,
+    });
+    let v = store::find(m, claim.n, &row);
+    relax(m, u, out.label, v, z)
+}
+
+// Tries the noted outcomes of a label from u.
+fn relax_outcomes(claim: Claim, u: usize, out: Outcomes, notes: &[u8], m: &mut [u8]) -> Tried
+    requires { ⌜ Offering claim (now m) (now notes) u out ⌝ }
+    ensures { λ t. ⌜ ((P : Plan) → Offers P claim (now (m .entry)) (now (notes .entry)) u out → RelaxesAll P claim u out (now (notes .entry)) (now (m .entry)) (now (m .exit)) t) ⌝ }
+{
+    let from = links::link_to(m, u);
+    let high = from.distance + potentials::times(claim.q, out.kept);
+    let count = out.count;
+    let mut moved = false;
+    let mut k = 0;
+    while k < count {
+        let tried = relax_outcome(claim, u, out, high, k, notes, m);
+        if tried.steps != 0 {
+            return tried;
+        }
+        moved = moved | tried.moved;
+        k += 1;
+    }
+    Tried { moved, steps: 0 }
+}
+
+// Tries the edges of a label from the node numbered u.
+fn relax_label(
+    claim: Claim,
+    next: &[u8; plan::PAIRS],
+    rules: Rules,
+    u: usize,
+    node: Node,
+    label: u8,
+    notes: &mut [u8],
+    m: &mut [u8],
+) -> Tried
+    requires { ⌜ Ruled rules × Seeking rules (now next) (now m) claim × Numbered (now m) (claim .n) u node × (stateIn (now m) .known u ≡ true) × (noteRoom ≤ length (now notes)) ⌝ }
+    ensures { λ t. ⌜ ((P : Plan) → Sought P rules (now (next .entry)) (now (m .entry)) claim → RelaxesLabel P claim u label (now (m .entry)) (now (m .exit)) t) ⌝ }
+    ensures { λ _. ⌜ drop noteRoom (now (notes .exit)) ≡ drop noteRoom (now (notes .entry)) ⌝ }
+{
+    let to = plan::next_state(next, node.state, label);
+    if to == 0 {
+        return Tried {
+            moved: false,
+            steps: 0,
+        };
+    }
+    let noted = graph::reach(rules, node, label, notes);
+    let done = noted.done;
+    let cells = done.cells;
+    let out = Outcomes {
+        label,
+        count: noted.count,
+        cells,
+        state: to - 1,
+        kept: done.gain as u32,
+    };
+    relax_outcomes(claim, u, out, notes, m)
+}
+
+// Tries the edges of the node numbered u, labels upward, if it waits.
+fn relax_node(
+    claim: Claim,
+    next: &[u8; plan::PAIRS],
+    rules: Rules,
+    u: usize,
+    notes: &mut [u8],
+    m: &mut [u8],
+) -> Tried
+    requires { ⌜ Ruled rules × Seeking rules (now next) (now m) claim × (u < claim .n) × (noteRoom ≤ length (now notes)) ⌝ }
+    ensures { λ t. ⌜ ((P : Plan) → Sought P rules (now (next .entry)) (now (m .entry)) claim → RelaxesNode P claim u (now (m .entry)) (now (m .exit)) t) ⌝ }
+    ensures { λ _. ⌜ drop noteRoom (now (notes .exit)) ≡ drop noteRoom (now (notes .entry)) ⌝ }
+{
+    let mut moved = false;
+    let link = links::link_to(m, u);
+    if link.mark != links::WAITING {
+        return Tried { moved, steps: 0 };
+    }
+    let row = store::row(m, u);
+    let node = discovery::node_of(row);
+    let labels = 1u8 << rules.count;
+    let mut label = 0;
+    while label < labels {
+        let tried = relax_label(claim, next, rules, u, node, label, notes, m);
+        if tried.steps != 0 {
+            return tried;
+        }
+        moved = moved | tried.moved;
+        label += 1;
+    }
+    links::set_mark(m, u, links::TRIED);
+    Tried { moved, steps: 0 }
+}
+
+// Tries the edges of every node that waits, nodes by number.
+fn pass(
+    claim: Claim,
+    next: &[u8; plan::PAIRS],
+    rules: Rules,
+    notes: &mut [u8],
+    m: &mut [u8],
+) -> Tried
+    requires { ⌜ Ruled rules × Seeking rules (now next) (now m) claim × (noteRoom ≤ length (now notes)) ⌝ }
+    ensures { λ t. ⌜ ((P : Plan) → Sought P rules (now (next .entry)) (now (m .entry)) claim → Passes P claim (now (m .entry)) (now (m .exit)) t) ⌝ }
+    ensures { λ _. ⌜ drop noteRoom (now (notes .exit)) ≡ drop noteRoom (now (notes .entry)) ⌝ }
+{
+    let n = claim.n;
+    let mut moved = false;
+    let mut u = 0;
+    while u < n {
+        let tried = relax_node(claim, next, rules, u, notes, m);
+        if tried.steps != 0 {
+            return tried;
+        }
+        moved = moved | tried.moved;
+        u += 1;
+    }
+    Tried { moved, steps: 0 }
+}
+
+// Finds the distances of all nodes, and gives 0; or the number of steps of a cycle that costs less than 0.
+pub fn settle(
+    claim: Claim,
+    next: &[u8; plan::PAIRS],
+    rules: Rules,
+    notes: &mut [u8],
+    m: &mut [u8],
+) -> usize
+    requires { ⌜ Ruled rules × Pricing rules (now next) (now m) claim × (noteRoom ≤ length (now notes)) ⌝ }
+    ensures { λ k. ⌜ ((P : Plan) → Priced P rules (now (next .entry)) (now (m .entry)) claim → Settles P claim (now (m .entry)) (now (m .exit)) k) ⌝ }
+    ensures { λ _. ⌜ drop noteRoom (now (notes .exit)) ≡ drop noteRoom (now (notes .entry)) ⌝ }
+{
+    links::begin(m);
+    let mut moved = true;
+    let mut steps = 0;
+    while moved {
+        let tried = pass(claim, next, rules, notes, m);
+        moved = tried.moved;
+        steps = tried.steps;
+    }
+    steps
+}
