@@ -1,0 +1,59 @@
+// The smallest fraction of a plan, by cycles that cost less than 0 until there is none.
+use circuit::Fraction;
+use policy::Rules;
+use potentials::Claim;
+ghost use mathlib.Core.Path.{_≡_};
+ghost use mathlib.Core.List.{List};
+ghost use Prim.Native.Nat.{ℕ, _+_, _≤_};
+ghost use lib.ListN.{length, drop};
+ghost use Rattle.model.specs.Plan.{Plan};
+ghost use Rattle.policy.specs.View.{tasksIn, Ruled};
+ghost use Rattle.graph.specs.Outcomes.{noteRoom};
+ghost use Rattle.graph.specs.View.{Planned};
+ghost use Rattle.discovery.specs.Discovery.{Holds, Held};
+ghost use Rattle.links.specs.Links.{linksAt, linksSize, stepsSize, linksEnd, Only};
+ghost use Rattle.solution.specs.Solution.{Circling, Circled, Lowers, Solving};
+
+// A fraction, and the steps of the cycle that attains it, 0 for 1/0.
+pub struct Solution {
+    pub p: u32,
+    pub q: u32,
+    pub steps: usize,
+}
+
+// The fraction that the cycle of so many steps attains.
+fn attained(rules: Rules, steps: usize, notes: &mut [u8], m: &[u8]) -> Fraction
+    requires { ⌜ Ruled rules × Circled rules (now m) steps × (linksEnd ≤ length (now m)) × (noteRoom ≤ length (now notes)) ⌝ }
+    ensures { λ f. ⌜ ((P : Plan) (next : List ℕ) (claim : Claim) → Circling P rules next (now (m .entry)) claim steps → Lowers P claim (now (m .entry)) steps f) ⌝ }
+    ensures { λ _. ⌜ drop noteRoom (now (notes .exit)) ≡ drop noteRoom (now (notes .entry)) ⌝ }
+{
+    let sums = circuit::gains(rules, steps, notes, m);
+    circuit::lowest(sums.kept, sums.ideal)
+}
+
+// The smallest fraction of the plan whose n nodes are in the store, from 1/0 down.
+pub fn least(
+    next: &[u8; plan::PAIRS],
+    rules: Rules,
+    n: usize,
+    notes: &mut [u8],
+    m: &mut [u8],
+) -> Solution
+    requires { ⌜ Ruled rules × Held rules (now next) (now m) n × (linksEnd ≤ length (now m)) × (noteRoom ≤ length (now notes)) ⌝ }
+    ensures { λ s. ⌜ ((P : Plan) → Planned P rules (now (next .entry)) → Holds P (tasksIn rules) (now (m .entry)) n → Solving P rules (now (next .entry)) (now (m .exit)) n s) ⌝ }
+    ensures { λ _. ⌜ Only linksAt (linksSize + stepsSize) (now (m .entry)) (now (m .exit)) ⌝ }
+    ensures { λ _. ⌜ drop noteRoom (now (notes .exit)) ≡ drop noteRoom (now (notes .entry)) ⌝ }
+{
+    let mut p = 1;
+    let mut q = 0;
+    let mut steps = 0;
+    let mut found = distances::settle(Claim { p, q, n }, next, rules, notes, m);
+    while found != 0 {
+        let lower = attained(rules, found, notes, m);
+        p = lower.p;
+        q = lower.q;
+        steps = found;
+        found = distances::settle(Claim { p, q, n }, next, rules, notes, m);
+    }
+    Solution { p, q, steps }
+}
