@@ -4,7 +4,7 @@ ghost use lib.ListN.{length};
 ghost use Rattle.model.specs.Check.{check};
 ghost use Rattle.model.specs.Trace as model-trace;
 ghost use Rattle.checker.specs.Promise.{memoryAfter};
-ghost use Rattle.exports.specs.Codes.{traceCode, checkCode, numbersAfter};
+ghost use Rattle.exports.specs.Codes.{traceCode, checkCode, numbersAfter, SolvesAs};
 use tracer::Answer;
 
 // The trace call: the number of bytes written, or 65,536 and the number of the refusal.
@@ -39,5 +39,17 @@ pub extern "C" fn jovnetal_check(
             *numbers = [p as u64, q as u64, n as u64, k];
             0
         }
+    }
+}
+
+// The solve call: the number of bytes written, or 65,536 and the number of the refusal.
+#[no_mangle]
+pub extern "C" fn jovnetal_solve(plan: &[u8], work: &mut [u8], out: &mut [u8]) -> u64
+    ensures { λ r. ⌜ SolvesAs (now (plan .entry)) (now (work .entry)) (now (work .exit)) (now (out .entry)) (now (out .exit)) r ⌝ }
+{
+    let answer = solver::solve(plan, work, out);
+    match answer {
+        solver::Answer::Refused(r) => 65536 + r.number(),
+        solver::Answer::Written(n) => n as u64,
     }
 }

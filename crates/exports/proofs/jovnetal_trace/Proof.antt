@@ -4,23 +4,15 @@ use mathlib.Core.Path.{_≡_, sym, ap, _∙_}
 use Prim.Native.Nat.{ℕ, _+_, _≤_}
 use native.Mathlib.Omega.{arith}
 use Rattle.model.specs.Trace.{TraceResult}
-use Rattle.plan.specs.declared.Fault.{Fault}
-use Rattle.plan.specs.declared.Fault.the-variants.{BytesEnd, UnknownCommand, OutOfPlace, OutOfRange}
-use Rattle.plan.specs.View.{faultNumber}
 use Rattle.tracer.specs.declared.Refusal.{Refusal}
 use Rattle.tracer.specs.declared.Refusal.the-variants.{ShortMemory, Plan, TooManyLabels, NotAdmitted}
 use Rattle.tracer.specs.declared.Answer.{Answer}
 use Rattle.tracer.specs.Promise.{refusalNumber, answerOf}
 use Rattle.exports.specs.Codes.{traceCode}
+use Rattle.exports.proofs.Faults.{fault-small}
 use borrow.Author.Needs.{needs}
 use Rattle.exports.proofs.jovnetal_trace.Statement.{statement}
 use Rattle.exports.proofs.jovnetal_trace.Tie as tie
-
-fault-small : (f : Fault) → faultNumber f ≤ 13
-fault-small BytesEnd = omega arith
-fault-small UnknownCommand = omega arith
-fault-small OutOfPlace = omega arith
-fault-small OutOfRange = omega arith
 
 -- the numbers of refusals are small
 refusal-small : (r : Refusal) → refusalNumber r ≤ 13
