@@ -1,6 +1,5 @@
 -- Laws of the greatest common divisor. Assumes nothing.
 use mathlib.Core.Path.{_≡_, refl, sym, subst}
-use mathlib.Core.Logic.{_↔_}
 use Prim.Native.Nat.{ℕ, zero, suc, _*_, _/_, _%_, _<_, _∣_}
 use native.Mathlib.Nat.{mod-lt, mul-one, not-suc-le-zero, dvd-refl, dvd-zero, dvd-mod-iff, eq-one-of-dvd-one, pos-of-dvd-of-pos, mul-dvd-mul-left, dvd-of-mul-dvd-mul-left, mul-div-cancel'}
 use native.Mathlib.Omega.{arith}
@@ -48,19 +47,9 @@ pub gcd-greatest : (a b d : ℕ) → d ∣ a → d ∣ b → d ∣ gcd a b
 unfolding gcd
 gcd-greatest a b d h k = greatest-in (suc b) a b d h k
 
--- it is above 0 where one of the two is
-pub gcd-pos-left : (a b : ℕ) → 0 < a → 0 < gcd a b
-gcd-pos-left a b h = pos-of-dvd-of-pos (gcd-divides a b .0) h
-
+-- it is above 0 where the second is
 pub gcd-pos-right : (a b : ℕ) → 0 < b → 0 < gcd a b
 gcd-pos-right a b h = pos-of-dvd-of-pos (gcd-divides a b .1) h
-
--- lowest terms: nothing but 1 divides both
-pub gcd-one : (a b : ℕ) → (gcd a b ≡ 1) ↔ ((d : ℕ) → d ∣ a → d ∣ b → d ≡ 1)
-gcd-one a b = (
-  λ e d h k. eq-one-of-dvd-one (subst (λ (g : ℕ). d ∣ g) e (gcd-greatest a b d h k)),
-  λ h. h (gcd a b) (gcd-divides a b .0) (gcd-divides a b .1),
-)
 
 -- both are so many times it
 pub gcd-times : (a b : ℕ) → (gcd a b * (a / gcd a b) ≡ a) × (gcd a b * (b / gcd a b) ≡ b)

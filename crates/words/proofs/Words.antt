@@ -6,12 +6,9 @@ use native.Mathlib.Nat.{mod-eq-of-lt}
 use native.Mathlib.Decide.{decLt}
 use native.Mathlib.Omega.{arith}
 use lib.Dec.{lit<}
-use lib.IntN.{ℤ}
 use lib.ListN.{length, getD, set, drop, length-take, List·getD-eq-default}
-use lib.Signed.{mag}
 use lib.Seq.{take-add, drop-drop, drop-cons, getD-take, getD-drop}
-use Rattle.model.specs.Bytes.{number, bytes, signed, complement, part, overwrite}
-use Rattle.words.proofs.Complement.{complement-lt, signed-complement}
+use Rattle.model.specs.Bytes.{number, bytes, part, overwrite}
 use Rattle.words.proofs.Memory.{overwrite-one, overwrite-join, overwrite-part, part-length, part-more}
 use Rattle.words.proofs.Numbers.{AreBytes, number-append, number-single, number-snoc, number-bytes, bytes-length, bytes-append, bytes-mod}
 
@@ -46,11 +43,6 @@ pub number-overwrite : (m : List ℕ) (at k n : ℕ) → at + k ≤ length m →
     → number (part (overwrite m at (bytes k n)) at k) ≡ n
 number-overwrite m at k n fits small =
     ap number (rw (bytes-length k n) at (overwrite-part m at (bytes k n) (omega (arith, bytes-length k n)))) ∙ number-bytes k n small
-
-pub signed-overwrite : (m : List ℕ) (at : ℕ) (z : ℤ) → at + 8 ≤ length m → mag z < 2 ^ 63
-    → signed (number (part (overwrite m at (bytes 8 (complement z))) at 8)) ≡ z
-signed-overwrite m at z fits small =
-    ap signed (number-overwrite m at 8 (complement z) fits (complement-lt z small)) ∙ signed-complement z small
 
 -- what stands in a part of bytes is bytes
 pub part-bytes : (m : List ℕ) (at k : ℕ) → AreBytes m → AreBytes (part m at k)
