@@ -10,7 +10,7 @@ use native.Mathlib.Omega.{arith}
 use lib.Bits.{bitAnd, bitOr, and-zero-l}
 use lib.Dec.{eqb}
 use lib.ListN.{length, getD, take, drop, replicate, length-append, drop-of-length-le}
-use lib.Pow.{shr-shr}
+use lib.Pow.{shr-shr, suc-ones}
 use lib.Seq.{drop-cons, set-append-seam, append-snoc}
 use borrow.Author.Tests.{eq-eqb, ne-eqb}
 use Rattle.model.specs.Bytes.{part}
@@ -20,7 +20,8 @@ use Rattle.model.specs.Lists.{consIf, keep, flatMap, upFrom, ones}
 use Rattle.model.specs.Masks.{maskCount, group, groupsBelow, maskTable, groupStart, masksOf}
 use Rattle.model.specs.Plan.{Task}
 use Rattle.model.specs.Slot.{noTask}
-use Rattle.model.proofs.Lists.{keep-keep, map-same, flatMap-append, mem-of-flatMap, mem-getD}
+use Rattle.theory.proofs.Bits.{ones-below}
+use Rattle.model.proofs.Lists.{keep-keep, keep-same, mem-of-upFrom, map-same, flatMap-append, mem-of-flatMap, mem-getD}
 use Rattle.masks.specs.Clear.{NextClear}
 use Rattle.masks.proofs.Groups.{groupBelow, length-table, mem-group, group-below, group-below-le, groupStart-le, group-below-from-one}
 use Rattle.theory.proofs.Edges.{mem-choices}
@@ -81,6 +82,9 @@ module _ (taken : ℕ) where
   unfolding masksOf
   masks-idle t = sym clear-zero
 
+  ones-low : (D m : ℕ) → D ≤ maxWindow → m < 2 ^ D → ones D m ≡ ones maxWindow m
+  ones-low D m h lt = ones-below D D m lt (omega arith) ∙ sym (ones-below D maxWindow m lt h)
+
   masks-released : (t : Task) → InRange t
       → masksOf t true taken ≡ clearIn taken 0 1 ++ clearIn taken (groupStart (t .work)) (groupStart (t .work) + length (groupBelow (t .window) (t .work)))
   unfolding masksOf clearIn clear
@@ -88,8 +92,10 @@ module _ (taken : ℕ) where
       let size : groupStart (t .work) + length (groupBelow (t .window) (t .work)) - groupStart (t .work) ≡ length (groupBelow (t .window) (t .work)) = omega arith in
       rw clear-zero
       (ap (λ l. 0 ∷ l)
-      (sym (keep-keep clear (λ m. eqb (ones maxWindow m) (t .work)) (upFrom 1 (2 ^ (t .window) - 1)))
-      ∙ ap (keep clear) (group-below-from-one (t .work) (t .window) (h .work) (h .window)
+      (sym (keep-keep clear (λ m. eqb (ones (t .window) m) (t .work)) (upFrom 1 (2 ^ (t .window) - 1)))
+      ∙ ap (keep clear) (keep-same (λ m. eqb (ones (t .window) m) (t .work)) (λ m. eqb (ones maxWindow m) (t .work)) (upFrom 1 (2 ^ (t .window) - 1))
+      (λ m k. ap (λ n. eqb n (t .work)) (ones-low (t .window) m (h .window) (omega (arith, suc-ones (t .window), mem-of-upFrom 1 (2 ^ (t .window) - 1) k))))
+      ∙ group-below-from-one (t .work) (t .window) (h .work) (h .window)
       ∙ sym (ap (λ n. part maskTable (groupStart (t .work)) n) size ∙ group-below (t .work) (omega (arith, h .within, h .window)) (t .window)))))
 
 -- ---- the outcomes of the next tasks

@@ -72,13 +72,13 @@ module _ (t : Task) (taken m : ℕ) where
     unfolding fitsTask
     fits-beyond h = rw (ne-eqb m 0 ne, le-ltb m (2 ^ t .window) h)
 
-    pub fits-other : (ones maxWindow m ≡ t .work → ⊥) → m < 2 ^ t .window → fitsTask t true taken m ≡ false
+    pub fits-other : (ones (t .window) m ≡ t .work → ⊥) → m < 2 ^ t .window → fitsTask t true taken m ≡ false
     unfolding fitsTask
-    fits-other h lt = rw (ne-eqb m 0 ne, lt-ltb m (2 ^ t .window) lt, ne-eqb (ones maxWindow m) (t .work) h)
+    fits-other h lt = rw (ne-eqb m 0 ne, lt-ltb m (2 ^ t .window) lt, ne-eqb (ones (t .window) m) (t .work) h)
 
-    pub fits-work : ones maxWindow m ≡ t .work → m < 2 ^ t .window → fitsTask t true taken m ≡ eqb (bitAnd m taken) 0
+    pub fits-work : ones (t .window) m ≡ t .work → m < 2 ^ t .window → fitsTask t true taken m ≡ eqb (bitAnd m taken) 0
     unfolding fitsTask
-    fits-work h lt = rw (ne-eqb m 0 ne, lt-ltb m (2 ^ t .window) lt, eq-eqb (ones maxWindow m) (t .work) h)
+    fits-work h lt = rw (ne-eqb m 0 ne, lt-ltb m (2 ^ t .window) lt, eq-eqb (ones (t .window) m) (t .work) h)
 
 -- the test of a mask decides whether it is one for the task
 pub fits-mem : (t : Task) (b : Bool) (taken m : ℕ) → fitsTask t b taken m ≡ true → MaskOf t b m × Apart m taken
@@ -86,7 +86,7 @@ unfolding fitsTask
 fits-mem t b taken m = by (eqb m 0) refl
   where
     worked : Bool
-    worked = eqb (ones maxWindow m) (t .work) && eqb (bitAnd m taken) 0
+    worked = eqb (ones (t .window) m) (t .work) && eqb (bitAnd m taken) 0
 
     inside : Bool
     inside = ltb m (2 ^ t .window) && worked
@@ -96,13 +96,13 @@ fits-mem t b taken m = by (eqb m 0) refl
     by false e h =
         let one = both b inside h in
         let two = both (ltb m (2 ^ t .window)) worked (one .1) in
-        let three = both (eqb (ones maxWindow m) (t .work)) (eqb (bitAnd m taken) 0) (two .1) in (
+        let three = both (eqb (ones (t .window) m) (t .work)) (eqb (bitAnd m taken) 0) (two .1) in (
           inr
               (record {
                 out = subst T (sym (one .0)) tt;
                 pos = omega (arith, eqb-false m 0 e);
                 below = ltb-true m (2 ^ t .window) (two .0);
-                size = eqb-true (ones maxWindow m) (t .work) (three .0);
+                size = eqb-true (ones (t .window) m) (t .work) (three .0);
               }),
           and-apart m taken .0 (eqb-true (bitAnd m taken) 0 (three .1)),
         )

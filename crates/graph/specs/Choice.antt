@@ -50,7 +50,7 @@ gainIn (found.Some p g) = g
 -- "either 0, or, if the label releases it, C bits below bit D, clear of the pattern and of the other masks"
 unfoldable pub fitsTask : Task → Bool → ℕ → ℕ → Bool
 fitsTask t released taken m =
-    eqb m 0 || (released && (ltb m (2 ^ t .window) && (eqb (ones maxWindow m) (t .work) && eqb (bitAnd m taken) 0)))
+    eqb m 0 || (released && (ltb m (2 ^ t .window) && (eqb (ones (t .window) m) (t .work) && eqb (bitAnd m taken) 0)))
 
 abbrev pub allZero : List ℕ → Bool
 allZero [] = true

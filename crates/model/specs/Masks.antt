@@ -32,4 +32,4 @@ groupStart c = length (groupsBelow c)
 unfoldable pub masksOf : Task → Bool → ℕ → List ℕ
 masksOf t false taken = 0 ∷ []
 masksOf t true taken =
-    0 ∷ keep (λ m. eqb (ones maxWindow m) (t .work) && eqb (bitAnd m taken) 0) (upFrom 1 (2 ^ (t .window) - 1))
+    0 ∷ keep (λ m. eqb (ones (t .window) m) (t .work) && eqb (bitAnd m taken) 0) (upFrom 1 (2 ^ (t .window) - 1))

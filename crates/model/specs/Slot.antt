@@ -5,7 +5,6 @@ use mathlib.Core.List.{List, [], _∷_, _++_, map, foldl}
 use mathlib.Core.Option.{Option, none, some}
 use lib.Dec.{leb, ltb, eqb}
 use lib.ListN.{getD}
-use Rattle.model.specs.Limits.{maxWindow}
 use Rattle.model.specs.Lists.{consIf, keep}
 use Rattle.model.specs.Plan.{Task, Plan}
 
@@ -41,9 +40,13 @@ srt = 2
 abbrev pub fifo : ℕ
 fifo = 3
 
--- the release slot, counted from maxWindow slots ago: of D slots, D − left have passed
+-- a number of slots that no window has: D is one byte, in every edition
+abbrev pub longAgo : ℕ
+longAgo = 256
+
+-- the release slot, counted from so many slots ago: of D slots, D − left have passed
 abbrev pub releaseSlot : List Task → Job → ℕ
-releaseSlot ts j = maxWindow - (taskOf ts (j .task) .window - j .left)
+releaseSlot ts j = longAgo - (taskOf ts (j .task) .window - j .left)
 
 -- "EDF (slots left, task); SRT (work remaining, task, slots left); FIFO (release slot, task); SP (task, slots left)"
 unfoldable pub key : List Task → ℕ → Job → List ℕ

@@ -15,7 +15,7 @@ use lib.Seq.{ext-getD}
 use Rattle.model.specs.Limits.{maxTasks, maxWindow}
 use Rattle.model.specs.Lists.{consIf, keep, flatMap, upFrom, bit}
 use Rattle.model.specs.Plan.{Task, Plan}
-use Rattle.model.specs.Slot.{Job, noTask, taskOf, releaseSlot, newJobs, canFinish, isJob, worked, tick, stays, key, first, runFirst, ready, slot}
+use Rattle.model.specs.Slot.{Job, noTask, taskOf, releaseSlot, longAgo, newJobs, canFinish, isJob, worked, tick, stays, key, first, runFirst, ready, slot}
 use Rattle.model.proofs.Lists.{Rising, rising-from, mem-of-keep, mem-of-flatMap, mem-flatMap, mem-of-upFrom, mem-upFrom}
 use Rattle.model.proofs.Plan.{both}
 use Rattle.policy.specs.View.{Tasks, cellCount, slotCells, taskIn, leftIn, jobIn, jobsIn, jobsOf, newWork, TasksInRange, Cells}
@@ -92,17 +92,17 @@ module _ (ts : Tasks) (r : TasksInRange ts) where
           }
       go false p = absurd (omega arith)
 
-  new-arrival : (l i : ℕ) → arrival ts (record { task = 1 + i; work = newWork ts l i; left = getD ts i noTask .window }) ≡ maxWindow * suc maxTasks + (1 + i)
+  new-arrival : (l i : ℕ) → arrival ts (record { task = 1 + i; work = newWork ts l i; left = getD ts i noTask .window }) ≡ longAgo * suc maxTasks + (1 + i)
   new-arrival l i = let place : 1 + i - 1 ≡ i = omega arith in omega (arith, ap (λ n. getD ts n noTask .window) place)
 
-  new-order : (l : ℕ) → Rising (maxWindow * suc maxTasks) (map (arrival ts) (newJobs ts l 1))
+  new-order : (l : ℕ) → Rising (longAgo * suc maxTasks) (map (arrival ts) (newJobs ts l 1))
   new-order l =
-      subst (λ js. Rising (maxWindow * suc maxTasks) (map (arrival ts) js)) (sym (new-jobs ts l 1 maxTasks (r .count) (λ j lt. r .each j lt .work)))
+      subst (λ js. Rising (longAgo * suc maxTasks) (map (arrival ts) js)) (sym (new-jobs ts l 1 maxTasks (r .count) (λ j lt. r .each j lt .work)))
       (rising-from (map (arrival ts) (flatMap (newIn ts l 1) (upFrom 0 maxTasks))) (omega arith)
-      (rising-flatMap (arrival ts) (newIn ts l 1) (λ i. maxWindow * suc maxTasks + (1 + i)) 0 maxTasks
+      (rising-flatMap (arrival ts) (newIn ts l 1) (λ i. longAgo * suc maxTasks + (1 + i)) 0 maxTasks
       (λ i _ _. (go i (ltb 0 (newWork ts l i)), λ j m. omega (arith, ap (arrival ts) (only (ltb 0 (newWork ts l i)) m .1), new-arrival l i), omega arith))))
     where
-      go : (i : ℕ) (b : Bool) → Rising (maxWindow * suc maxTasks + (1 + i)) (map (arrival ts) (consIf b (record { task = 1 + i; work = newWork ts l i; left = getD ts i noTask .window }) []))
+      go : (i : ℕ) (b : Bool) → Rising (longAgo * suc maxTasks + (1 + i)) (map (arrival ts) (consIf b (record { task = 1 + i; work = newWork ts l i; left = getD ts i noTask .window }) []))
       go i true = (omega (arith, new-arrival l i), tt)
       go i false = tt
 
@@ -110,7 +110,7 @@ module _ (ts : Tasks) (r : TasksInRange ts) where
   join-canonical l js c = record {
     each = λ j m. ⊎-elim (λ old. earlier j (c .each j old)) (λ new. fresh j new) (List·Memᴰ·append-cases js m);
     order =
-        rising-append (arrival ts) 0 (maxWindow * suc maxTasks) js (newJobs ts l 1) (omega arith) (c .order)
+        rising-append (arrival ts) 0 (longAgo * suc maxTasks) js (newJobs ts l 1) (omega arith) (c .order)
         (λ j m. before j (c .each j m)) (new-order l);
   }
     where
@@ -122,7 +122,7 @@ module _ (ts : Tasks) (r : TasksInRange ts) where
           let t = mem-of-flatMap (newIn ts l 1) (upFrom 0 maxTasks) (subst (List·Memᴰ j) (new-jobs ts l 1 maxTasks (r .count) (λ k lt. r .each k lt .work)) m) in
           new-fit l (t .0) j (t .2)
 
-      before : (j : Job) → FitJob ts 1 j → arrival ts j < maxWindow * suc maxTasks
+      before : (j : Job) → FitJob ts 1 j → arrival ts j < longAgo * suc maxTasks
       before j f = omega (arith, f .within, f .there, f .left, r .count, window-low ts r (j .task - 1))
 
   -- 2. jobs that cannot finish are dropped
@@ -219,21 +219,21 @@ module _ (ts : Tasks) (cells : List ℕ) where
             within = omega (arith, ap (λ (t : Task). t .window) (task-number ts k));
           }
 
-      at : (k : ℕ) → k < cellCount → 0 < getD cells k 0 → arrival ts (jobIn ts k (getD cells k 0)) ≡ suc (k / maxTasks) * suc maxTasks + taskIn k
+      at : (k : ℕ) → k < cellCount → 0 < getD cells k 0 → arrival ts (jobIn ts k (getD cells k 0)) ≡ (longAgo - maxWindow + suc (k / maxTasks)) * suc maxTasks + taskIn k
       at k lt p = omega (arith, released ts k (getD cells k 0) (h .left k p))
 
       order : Rising 0 (map (arrival ts) (jobsOf ts cells))
       order =
           subst (λ js. Rising 0 (map (arrival ts) js)) (sym (jobs-sized ts cellCount cells (h .size)))
           (rising-from (map (arrival ts) (flatMap (λ k. jobsIn ts k (getD cells k 0)) (upFrom 0 cellCount))) (omega arith)
-          (rising-flatMap (arrival ts) (λ k. jobsIn ts k (getD cells k 0)) (λ k. suc (k / maxTasks) * suc maxTasks + taskIn k) 0 cellCount
+          (rising-flatMap (arrival ts) (λ k. jobsIn ts k (getD cells k 0)) (λ k. (longAgo - maxWindow + suc (k / maxTasks)) * suc maxTasks + taskIn k) 0 cellCount
           (λ k _ lt. (
             go k (omega arith) (ltb 0 (getD cells k 0)) refl,
             λ j m. let o = only (ltb 0 (getD cells k 0)) m in omega (arith, ap (arrival ts) (o .1), at k (omega arith) (ltb-true 0 (getD cells k 0) (o .0))),
             omega arith,
           ))))
         where
-          go : (k : ℕ) → k < cellCount → (b : Bool) → ltb 0 (getD cells k 0) ≡ b → Rising (suc (k / maxTasks) * suc maxTasks + taskIn k) (map (arrival ts) (consIf b (jobIn ts k (getD cells k 0)) []))
+          go : (k : ℕ) → k < cellCount → (b : Bool) → ltb 0 (getD cells k 0) ≡ b → Rising ((longAgo - maxWindow + suc (k / maxTasks)) * suc maxTasks + taskIn k) (map (arrival ts) (consIf b (jobIn ts k (getD cells k 0)) []))
           go k lt true e = (omega (arith, at k lt (ltb-true 0 (getD cells k 0) e)), tt)
           go k lt false e = tt
 

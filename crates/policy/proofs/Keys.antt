@@ -15,7 +15,7 @@ use lib.ListN.{getD, List·getD-eq-default}
 use Rattle.model.specs.Limits.{maxTasks, maxWindow}
 use Rattle.model.specs.Lists.{consIf, flatMap, upFrom}
 use Rattle.model.specs.Plan.{Task}
-use Rattle.model.specs.Slot.{Job, noTask, taskOf, releaseSlot, edf, srt, fifo, key, keyBelow, sooner, first}
+use Rattle.model.specs.Slot.{Job, noTask, taskOf, releaseSlot, longAgo, edf, srt, fifo, key, keyBelow, sooner, first}
 use Rattle.model.proofs.Lists.{flatMap-append, upFrom-append, getD-table}
 use Rattle.policy.specs.View.{Tasks, slotCells, taskIn, taskAt, ageIn, leftIn, leftTable, Low, jobIn, jobsIn, jobsOf, TasksInRange, Cells, Chosen, keyNumber, keyIn, codeIn, places, noCode}
 use Rattle.policy.proofs.Lists.{length-table}
@@ -58,8 +58,28 @@ number-order h t w h′ t′ w′ k i ht ht′ hw hw′ lt hk =
 pub task-number : (ts : Tasks) (k : ℕ) → taskOf ts (taskIn k) ≡ taskAt ts k
 task-number ts k = let e : taskIn k - 1 ≡ k % maxTasks = omega arith in ap (λ n. getD ts n noTask) e
 
+-- numbers that lie as far apart as two others are ordered as they are
+module _ (a b x y : ℕ) (e : a + y ≡ x + b) where
+  same-ltb : ltb a b ≡ ltb x y
+  same-ltb = go (ltb x y) refl
+    where
+      go : (c : Bool) → ltb x y ≡ c → ltb a b ≡ c
+      go true f = lt-ltb a b (omega (arith, ltb-true x y f, e))
+      go false f = le-ltb a b (omega (arith, ltb-false x y f, e))
+
+  same-eqb : eqb a b ≡ eqb x y
+  same-eqb = go (eqb x y) refl
+    where
+      go : (c : Bool) → eqb x y ≡ c → eqb a b ≡ c
+      go true f = eq-eqb a b (omega (arith, eqb-true x y f, e))
+      go false f = ne-eqb a b (λ same. eqb-false x y f (omega (arith, same, e)))
+
+-- release slots are as far apart from either origin
+origins : (a b : ℕ) → a ≤ maxWindow → b ≤ maxWindow → (longAgo - a) + (maxWindow - b) ≡ (maxWindow - a) + (longAgo - b)
+origins a b h h′ = omega arith
+
 -- a job's release slot from its cell
-pub released : (ts : Tasks) (k w : ℕ) → 0 < leftIn ts k → releaseSlot ts (jobIn ts k w) ≡ maxWindow - ageIn k
+pub released : (ts : Tasks) (k w : ℕ) → 0 < leftIn ts k → releaseSlot ts (jobIn ts k w) ≡ longAgo - ageIn k
 released ts k w h = omega (arith, ap (λ (t : Task). t .window) (task-number ts k))
 
 module _ (ts : Tasks) (policy k i w w′ : ℕ) (lt : i < k) (hk : k < places) (lk : leftIn ts k ≤ maxWindow) (li : leftIn ts i ≤ maxWindow)
@@ -90,6 +110,9 @@ module _ (ts : Tasks) (policy k i w w′ : ℕ) (lt : i < k) (hk : k < places) (
       go false true c = number-order w (taskIn k) (leftIn ts k) w′ (taskIn i) (leftIn ts i) k i tk ti lk li lt hk
       go false false true =
           ap₂ (λ x y. keyBelow (x ∷ taskIn k ∷ []) (y ∷ taskIn i ∷ [])) (released ts k w pk) (released ts i w′ pi)
+          ∙ ap₂ (λ x y. (x || (y && keyBelow (taskIn k ∷ []) (taskIn i ∷ []))))
+          (same-ltb (longAgo - ageIn k) (longAgo - ageIn i) (maxWindow - ageIn k) (maxWindow - ageIn i) (origins (ageIn k) (ageIn i) (omega arith) (omega arith)))
+          (same-eqb (longAgo - ageIn k) (longAgo - ageIn i) (maxWindow - ageIn k) (maxWindow - ageIn i) (origins (ageIn k) (ageIn i) (omega arith) (omega arith)))
           ∙ number-order (maxWindow - ageIn k) (taskIn k) 0 (maxWindow - ageIn i) (taskIn i) 0 k i tk ti (omega arith) (omega arith) lt hk
       go false false false = number-order 0 (taskIn k) (leftIn ts k) 0 (taskIn i) (leftIn ts i) k i tk ti lk li lt hk
 

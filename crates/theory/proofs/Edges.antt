@@ -12,7 +12,6 @@ use lib.Dec.{T, eqb}
 use lib.ListN.{length, getD}
 use lib.Pow.{suc-ones}
 use borrow.Author.Tests.{eqb-true, eq-eqb}
-use Rattle.model.specs.Limits.{maxWindow}
 use Rattle.model.specs.Lists.{bit, ones, keep, upFrom}
 use Rattle.model.specs.Plan.{Task, Plan, nextIn}
 use Rattle.model.specs.Slot.{noTask}
@@ -27,7 +26,7 @@ pub record Picked (t : Task) (released : Bool) (m : ℕ) : Type 0 where
   pub out : T released
   pub pos : 1 ≤ m
   pub below : m < 2 ^ t .window
-  pub size : ones maxWindow m ≡ t .work
+  pub size : ones (t .window) m ≡ t .work
 
 -- "either 0, or .."
 abbrev pub MaskOf : Task → Bool → ℕ → Type 0
@@ -47,12 +46,12 @@ mem-masksOf t true taken m = (
 )
   where
     test : ℕ → Bool
-    test n = eqb (ones maxWindow n) (t .work) && eqb (bitAnd n taken) 0
+    test n = eqb (ones (t .window) n) (t .work) && eqb (bitAnd n taken) 0
 
     of-kept : List·Memᴰ m (upFrom 1 (2 ^ (t .window) - 1)) × (test m ≡ true) → MaskOf t true m × Apart m taken
     of-kept (h, e) =
         let r = mem-of-upFrom 1 (2 ^ (t .window) - 1) h in
-        let two = both (eqb (ones maxWindow m) (t .work)) (eqb (bitAnd m taken) 0) e in (
+        let two = both (eqb (ones (t .window) m) (t .work)) (eqb (bitAnd m taken) 0) e in (
           inr (record { out = tt; pos = r .0; below = omega (arith, suc-ones (t .window), r .1); size = eqb-true _ _ (two .0) }),
           and-apart m taken .0 (eqb-true _ _ (two .1)),
         )

@@ -97,7 +97,7 @@ module _ (P : Plan) (sd : PlanSound P) {v : Node} {es : List Edge} (w : Walk P s
       let p = picked-at t i h .1 in
       let task = task-sound P sd (i - 1) (picked-task (P .tasks) _ (i - 1) (maskAt es t i) p) in
       sum-same _ _ (taskOf (P .tasks) i .window) (λ k _. ap one (gives-at es t i k))
-      ∙ sym (ones-below (taskOf (P .tasks) i .window) maxWindow (maskAt es t i) (p .below) (task .windowFits)) ∙ p .size
+      ∙ sym (ones-below (taskOf (P .tasks) i .window) (taskOf (P .tasks) i .window) (maskAt es t i) (p .below) (omega arith)) ∙ p .size
 
   -- the schedule of a walk
   scheduleOf : Schedule P (labels es)
@@ -206,7 +206,7 @@ module _ (P : Plan) (sd : PlanSound P) (run : List ℕ) (σ : Schedule P run) wh
             out = σ .released t i h .3;
             pos = picked-pos t i h;
             below = below;
-            size = ones-below D maxWindow (maskOf t i) below (task-of t i h .windowFits) ∙ mask-sum t i h;
+            size = ones-below D D (maskOf t i) below (omega arith) ∙ mask-sum t i h;
           })
       go false e = inl (unpicked t i (fails e))
 

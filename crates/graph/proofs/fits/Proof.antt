@@ -48,7 +48,7 @@ returns-4 c =
     sym
     (ap (λ b. fitsTask (taskOf (a .task)) b (a .pattern) (a .m)) (not-false (a .released) (n .if2 .left))
     ∙ fits-other (taskOf (a .task)) (a .pattern) (a .m) (n .before .if1 .left)
-    (λ e. c .if4 .taken (ones-counted maxWindow (a .m) (omega (arith, lt, pow-mono (n .before .before .pre))) ∙ e)) lt)
+    (λ e. c .if4 .taken (ones-counted (a .task .window) (a .m) lt ∙ e)) lt)
 
 returns-5 : tie.Need-returns-5
 returns-5 c =
@@ -58,7 +58,7 @@ returns-5 c =
     sym
     (ap (λ b. fitsTask (taskOf (a .task)) b (a .pattern) (a .m)) (not-false (a .released) (n .if2 .left))
     ∙ fits-work (taskOf (a .task)) (a .pattern) (a .m) (n .before .if1 .left)
-    (sym (ones-counted maxWindow (a .m) (omega (arith, lt, pow-mono (n .before .before .pre)))) ∙ c .if4 .left) lt)
+    (sym (ones-counted (a .task .window) (a .m) lt) ∙ c .if4 .left) lt)
 
 pub fits-spec : {M : Type 1} → statement M
 fits-spec =
