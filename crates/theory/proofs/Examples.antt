@@ -1,17 +1,25 @@
 -- The claim of marked cases.
 -- Assumes nothing.
 use mathlib.Core.Path.{_≡_, refl}
+use mathlib.Core.List.{[], _∷_, List·Memᴰ·head, List·Memᴰ·tail}
+use mathlib.Core.Option.{some}
+use Prim.Native.Nat.{zero, suc}
+use native.Mathlib.Omega.{arith}
+use lib.IntN.{pos, negsuc}
 use Rattle.model.specs.Limits.{workRoom}
-use Rattle.model.specs.Bytes.{number, signed}
+use Rattle.model.specs.Bytes.{number, bytes, signed, complement}
 use Rattle.model.specs.Cases.{planB, planC, certificateB, certificateC}
 use Rattle.model.specs.Plan.{Plan, sound, readPlan, readFrom, firstFault, fault, after, width, mayFollow, inRange, taskInRange, arcInRange}
 use Rattle.model.specs.Slot.{slot, ready, first, key}
 use Rattle.model.specs.Masks.{masksOf}
 use Rattle.model.specs.Graph.{choices, edgeOf, edgesAt, edges, explored, nodes, tooLarge}
 use Rattle.model.specs.Share.{KeptShare}
-use Rattle.model.specs.Certificate.{readCertificate, readPotentials, readSteps}
+use Rattle.model.specs.Walk.{here, go}
+use Rattle.model.specs.Certificate.{Certificate, certificateBytes, readCertificate, readPotentials, readSteps}
 use Rattle.model.specs.Check.{check, verdict, fractionOk, gcd, potentialsOk, cycleOk, follow, allowance}
+use Rattle.model.specs.Solve.{Solved}
 use Rattle.theory.proofs.Claim.{check-plan}
+use Rattle.theory.proofs.Distances.{AllSmallest, pass-smallest}
 
 -- B: a third is kept, but for 3, and no more
 pub claim-B : (P : Plan) × (readPlan planB ≡ sound P) × KeptShare P 1 3 3
@@ -22,3 +30,20 @@ claim-B = check-plan planB certificateB workRoom {N = 5} refl
 pub claim-C : (P : Plan) × (readPlan planC ≡ sound P) × KeptShare P 1 0 1
 unfolding number signed readPlan readFrom firstFault fault after width mayFollow inRange taskInRange arcInRange slot ready first key masksOf choices edgeOf edgesAt edges explored nodes tooLarge readCertificate readPotentials readSteps check verdict fractionOk gcd potentialsOk cycleOk follow allowance
 claim-C = check-plan planC certificateC workRoom {N = 2} refl
+
+-- the plan and the certificate that the bytes of C are
+abbrev readC : Plan
+readC = record { tasks = record { work = 1; window = 1; value = 1 } ∷ []; policy = 1; states = 2; arcs = record { from = 0; label = 1; to = 1 } ∷ record { from = 1; label = 0; to = 1 } ∷ [] }
+
+abbrev writtenC : Certificate
+writtenC = record { p = 1; q = 0; potentials = pos 0 ∷ negsuc 0 ∷ []; node = 0; steps = [] }
+
+-- C: "potentials 0, −1" are the smallest sums, so this is the only certificate that the solver may write
+pub solved-C : (readPlan planC ≡ sound readC) × (readCertificate certificateC ≡ some writtenC) × Solved readC writtenC
+unfolding number bytes signed complement readPlan readFrom firstFault fault after width mayFollow inRange taskInRange arcInRange slot ready first key masksOf choices edgeOf edgesAt edges explored nodes tooLarge certificateBytes readCertificate readPotentials readSteps check verdict fractionOk gcd potentialsOk cycleOk follow allowance
+solved-C = (refl, refl, record { form = refl; accepted = refl; potentials = smallest })
+  where
+    smallest : AllSmallest readC 1 0 (writtenC .potentials)
+    smallest zero h = pass-smallest readC refl 1 0 (writtenC .potentials) refl refl 0 h here refl
+    smallest (suc zero) h = pass-smallest readC refl 1 0 (writtenC .potentials) refl refl 1 h (go (List·Memᴰ·tail (List·Memᴰ·head refl)) here) refl
+    smallest (suc (suc i)) h = absurd (omega arith)

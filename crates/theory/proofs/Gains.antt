@@ -1,6 +1,6 @@
 -- How much a walk can gain: a slot keeps at most one value, and its ideal gain is at most one value a task.
 -- Assumes nothing.
-use mathlib.Core.Path.{_≡_, refl, sym, ap, subst}
+use mathlib.Core.Path.{_≡_, refl, sym, _∙_, ap, ap₂, subst}
 use mathlib.Core.Bool.{Bool, true, false, cond, _&&_, _||_}
 use mathlib.Core.Option.{Option, none, some}
 use mathlib.Core.List.{List, [], _∷_, List·Memᴰ, List·Memᴰ·head, List·Memᴰ·tail}
@@ -22,6 +22,7 @@ use Rattle.model.specs.Check.{gcd, fractionOk, withinLimit}
 use Rattle.model.specs.Solve.{cost}
 use Rattle.model.proofs.Lists.{mem-getD}
 use Rattle.model.proofs.Plan.{both}
+use Rattle.theory.proofs.Divisors.{gcd-zero}
 use Rattle.theory.proofs.Integers.{natAbs-sub-le}
 use Rattle.theory.proofs.Sound.{PlanSound}
 use Rattle.theory.proofs.Walks.{step-of}
@@ -92,20 +93,22 @@ module _ (P : Plan) (sd : PlanSound P) where
 
 -- ---- the limit of potentials
 
--- a fraction that passes is within the limits
-pub fraction-fits : (p q : ℕ) → fractionOk p q ≡ true → (p ≤ maxP) × (q ≤ maxQ)
+-- a fraction that passes is within the limits and in lowest terms
+pub fraction-fits : (p q : ℕ) → fractionOk p q ≡ true → (p ≤ maxP) × (q ≤ maxQ) × (gcd p q ≡ 1)
 unfolding fractionOk
 fraction-fits p q h = by (eqb p 1 && eqb q 0) refl h
   where
-    by : (b : Bool) → (eqb p 1 && eqb q 0) ≡ b → (b || (eqb (gcd p q) 1 && leb p maxP && leb 1 q && leb q maxQ)) ≡ true → (p ≤ maxP) × (q ≤ maxQ)
+    by : (b : Bool) → (eqb p 1 && eqb q 0) ≡ b → (b || (eqb (gcd p q) 1 && leb p maxP && leb 1 q && leb q maxQ)) ≡ true → (p ≤ maxP) × (q ≤ maxQ) × (gcd p q ≡ 1)
     by true e k =
         let two = both (eqb p 1) (eqb q 0) e in
-        omega (arith, eqb-true p 1 (two .0), eqb-true q 0 (two .1))
+        let one = eqb-true p 1 (two .0) in
+        let nought = eqb-true q 0 (two .1) in
+        (omega (arith, one), omega (arith, nought), ap₂ gcd one nought ∙ gcd-zero 1)
     by false e k =
         let four = both (eqb (gcd p q) 1 && leb p maxP && leb 1 q) (leb q maxQ) k in
         let three = both (eqb (gcd p q) 1 && leb p maxP) (leb 1 q) (four .0) in
         let two = both (eqb (gcd p q) 1) (leb p maxP) (three .0) in
-        (leb-true p maxP (two .1), leb-true q maxQ (four .1))
+        (leb-true p maxP (two .1), leb-true q maxQ (four .1), eqb-true (gcd p q) 1 (two .0))
 
 -- a walk of no more edges than the limit of nodes costs no more than the limit of potentials
 pub cost-within : (P : Plan) → PlanSound P → (p q : ℕ) → fractionOk p q ≡ true →
@@ -114,7 +117,7 @@ cost-within P sd p q ok {es = es} w h =
     le-leb (natAbs (cost p q es)) maxPotential
     (natAbs-sub-le (q * kept es) (p * ideal es) maxPotential (product (fits .1) k (omega arith)) (product (fits .0) i (omega arith)))
   where
-    fits : (p ≤ maxP) × (q ≤ maxQ)
+    fits : (p ≤ maxP) × (q ≤ maxQ) × (gcd p q ≡ 1)
     fits = fraction-fits p q ok
 
     k : kept es ≤ maxNodes * maxValue

@@ -31,3 +31,4 @@ pub mod Divisors
 pub mod Fractions
 pub mod Circuits
 pub mod Settled
+pub mod Unique
