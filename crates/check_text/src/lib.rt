@@ -3,12 +3,14 @@ use certificate::Permille;
 use checker::Answer;
 ghost use mathlib.Core.Path.{_≡_};
 ghost use Prim.Native.Nat.{_+_, _≤_};
+ghost use lib.Dec.{leb};
 ghost use lib.ListN.{length};
 ghost use Rattle.io.specs.Counts.{Counts};
+ghost use Rattle.model.specs.Bytes.{workAfter};
 ghost use Rattle.model.specs.Check.{share, thousandths, check};
+ghost use Rattle.model.specs.Limits.{workRoom};
 ghost use Rattle.model.specs.Text.{thousandthsText, checkText};
 ghost use Rattle.text.specs.Put.{Put};
-ghost use Rattle.checker.specs.Promise.{memoryAfter};
 ghost use Rattle.check_text.specs.Line.{numberRoom, lineRoom};
 
 // Room for the line of a check.
@@ -47,7 +49,7 @@ pub fn put_check(out: &mut [u8], plan: &[u8], certificate: &[u8], work: &mut [u8
     requires { ⌜ lineRoom ≤ length (now out) ⌝ }
     ensures { λ r. ⌜ Put (now (out .entry)) (now (out .exit)) 0 (checkText (check (now (plan .entry)) (now (certificate .entry)) (length (now (work .entry))))) r ⌝ }
     ensures { λ r. ⌜ Counts r (now (out .exit)) ⌝ }
-    ensures { λ _. ⌜ now (work .exit) ≡ memoryAfter (now (work .entry)) ⌝ }
+    ensures { λ _. ⌜ now (work .exit) ≡ workAfter (leb workRoom (length (now (work .entry)))) (now (work .entry)) ⌝ }
 {
     match checker::check(plan, certificate, work) {
         Answer::Refused(r) => text::put_refusal(out, r.number()),

@@ -2,14 +2,15 @@
 use certificate::Form;
 use certificate::Parts;
 use discovery::Discovered;
-use plan::Fault;
 use plan::Outcome;
 use plan::Plan;
 use policy::Rules;
 use potentials::Claim;
+use refusals::Refusal;
 ghost use mathlib.Core.Path.{_≡_};
 ghost use Prim.Native.Nat.{_≤_};
-ghost use lib.ListN.{length, drop};
+ghost use lib.ListN.{length};
+ghost use Rattle.model.specs.Bytes.{Only};
 ghost use Rattle.model.specs.Certificate.{readCertificate};
 ghost use Rattle.model.specs.Check as model-check;
 ghost use Rattle.model.specs.Limits.{workRoom};
@@ -17,40 +18,11 @@ ghost use Rattle.model.specs.Plan as model;
 ghost use Rattle.plan.specs.View.{planOf, Sized};
 ghost use Rattle.certificate.specs.View.{certificateOf, IsRead};
 ghost use Rattle.policy.specs.View.{tasksIn, Ruled};
-ghost use Rattle.graph.specs.Outcomes.{noteRoom};
+ghost use Rattle.graph.specs.Outcomes.{noteRoom, NotesFree};
 ghost use Rattle.graph.specs.View.{Planned};
+ghost use Rattle.store.specs.Store.{storeBytes};
 ghost use Rattle.discovery.specs.Discovery.{Holds, Held};
-ghost use Rattle.checker.specs.Promise.{refusalNumber, answerOf, Checks};
-
-// Why a certificate is not accepted.
-pub enum Refusal {
-    ShortMemory,
-    Plan(Fault),
-    TooManyNodes,
-    BadForm,
-    BadFraction,
-    BadCount,
-    BadPotential,
-    BadCycle,
-}
-
-impl Refusal {
-    // Its number.
-    pub fn number(self) -> u64
-        ensures { λ r. ⌜ r ≡ refusalNumber self ⌝ }
-    {
-        match self {
-            Refusal::ShortMemory => 11,
-            Refusal::Plan(f) => f.number(),
-            Refusal::TooManyNodes => 5,
-            Refusal::BadForm => 6,
-            Refusal::BadFraction => 7,
-            Refusal::BadCount => 8,
-            Refusal::BadPotential => 9,
-            Refusal::BadCycle => 10,
-        }
-    }
-}
+ghost use Rattle.checker.specs.Promise.{answerOf, Checks};
 
 // A refusal, or the fraction p/q, the number of nodes and the allowance K.
 pub enum Answer {
@@ -73,7 +45,7 @@ fn verdict(
 ) -> Answer
     requires { ⌜ Ruled rules × Held rules (now next) (now m) n × IsRead (now s) parts × (noteRoom ≤ length (now notes)) ⌝ }
     ensures { λ r. ⌜ ((P : model.Plan) → Planned P rules (now (next .entry)) → Holds P (tasksIn rules) (now (m .entry)) n → answerOf r ≡ model-check.verdict P (certificateOf (now (s .entry)) parts)) ⌝ }
-    ensures { λ _. ⌜ drop noteRoom (now (notes .exit)) ≡ drop noteRoom (now (notes .entry)) ⌝ }
+    ensures { λ _. ⌜ NotesFree (now (notes .entry)) (now (notes .exit)) ⌝ }
 {
     if !certificate::fraction_ok(parts.p, parts.q) {
         return Answer::Refused(Refusal::BadFraction);
@@ -115,7 +87,7 @@ fn check_certificate(
 ) -> Answer
     requires { ⌜ Ruled rules × Held rules (now next) (now m) n × (noteRoom ≤ length (now notes)) ⌝ }
     ensures { λ r. ⌜ ((P : model.Plan) → Planned P rules (now (next .entry)) → Holds P (tasksIn rules) (now (m .entry)) n → answerOf r ≡ model-check.checkRead P (readCertificate (now (s .entry)))) ⌝ }
-    ensures { λ _. ⌜ drop noteRoom (now (notes .exit)) ≡ drop noteRoom (now (notes .entry)) ⌝ }
+    ensures { λ _. ⌜ NotesFree (now (notes .entry)) (now (notes .exit)) ⌝ }
 {
     match certificate::read(s) {
         Form::Fault => Answer::Refused(Refusal::BadForm),
@@ -127,6 +99,7 @@ fn check_certificate(
 fn check_plan(plan: Plan, s: &[u8], m: &mut [u8]) -> Answer
     requires { ⌜ Sized plan × model.IsSound (planOf plan) × (workRoom ≤ length (now m)) ⌝ }
     ensures { λ r. ⌜ answerOf r ≡ model-check.checkPlan (model.sound (planOf plan)) (now (s .entry)) ⌝ }
+    ensures { λ _. ⌜ Only 0 storeBytes (now (m .entry)) (now (m .exit)) ⌝ }
 {
     let rules = policy::rules_of(plan);
     let next = plan.next;
@@ -141,6 +114,7 @@ fn check_plan(plan: Plan, s: &[u8], m: &mut [u8]) -> Answer
 fn check_bytes(plan: &[u8], s: &[u8], m: &mut [u8]) -> Answer
     requires { ⌜ workRoom ≤ length (now m) ⌝ }
     ensures { λ r. ⌜ answerOf r ≡ model-check.checkPlan (model.readPlan (now (plan .entry))) (now (s .entry)) ⌝ }
+    ensures { λ _. ⌜ Only 0 storeBytes (now (m .entry)) (now (m .exit)) ⌝ }
 {
     let read = plan::read(plan);
     let outcome = read.outcome;

@@ -28,7 +28,7 @@ use Rattle.theory.proofs.Sound.{PlanSound}
 use Rattle.certificate.specs.View.{stepSize}
 use Rattle.certificate.proofs.Pieces.{step-length, flatMap-length, overwrite-piece}
 use Rattle.policy.specs.declared.Rules.{Rules}
-use Rattle.links.specs.Links.{stepIn, takenOf, stepsIn}
+use Rattle.links.specs.Links.{takenIn, takenOf, firstSteps}
 use Rattle.links.specs.declared.Taken as links
 use Rattle.circuit.specs.declared.BestEdge.{BestEdge}
 use Rattle.circuit.specs.Circuit.{Linked, StandsFor, nodeAfter, Turns, Writes}
@@ -51,28 +51,28 @@ module _ {P : Plan} where
 
 module _ (m : List ℕ) (k : ℕ) where
   abbrev steps : List Taken
-  steps = stepsIn m k
+  steps = firstSteps m k
 
   pub steps-length : length steps ≡ k
-  steps-length = length-map (upFrom 0 k) (λ i. takenOf (stepIn m i)) ∙ length-upFrom 0 k
+  steps-length = length-map (upFrom 0 k) (λ i. takenOf (takenIn m i)) ∙ length-upFrom 0 k
 
-  steps-at : (i : ℕ) → i < k → getD steps i (takenOf (stepIn m 0)) ≡ takenOf (stepIn m i)
-  steps-at i = getD-table (λ j. takenOf (stepIn m j)) k i (takenOf (stepIn m 0))
+  steps-at : (i : ℕ) → i < k → getD steps i (takenOf (takenIn m 0)) ≡ takenOf (takenIn m i)
+  steps-at i = getD-table (λ j. takenOf (takenIn m j)) k i (takenOf (takenIn m 0))
 
   -- where the steps from the step i on start, to v
-  from-step : (v i : ℕ) → i < k → firstNode (drop i steps) v ≡ stepIn m i .node
+  from-step : (v i : ℕ) → i < k → firstNode (drop i steps) v ≡ takenIn m i .node
   from-step v i h =
-      ap (λ ss. firstNode ss v) (drop-cons steps i (takenOf (stepIn m 0)) (omega (arith, steps-length)))
+      ap (λ ss. firstNode ss v) (drop-cons steps i (takenOf (takenIn m 0)) (omega (arith, steps-length)))
       ∙ ap (λ (s : Taken). s .node) (steps-at i h)
 
   from-end : (v i : ℕ) → k ≤ i → firstNode (drop i steps) v ≡ v
   from-end v i h = ap (λ ss. firstNode ss v) (drop-of-length-le steps {i = i} (omega (arith, steps-length)))
 
   -- a node of a step follows each step
-  after-below : (n i : ℕ) → ((j : ℕ) → j < k → stepIn m j .node < n) → i < k → nodeAfter m k i < n
+  after-below : (n i : ℕ) → ((j : ℕ) → j < k → takenIn m j .node < n) → i < k → nodeAfter m k i < n
   after-below n i below h = by (eqb (i + 1) k) refl
     where
-      by : (b : Bool) → eqb (i + 1) k ≡ b → cond b (stepIn m 0 .node) (stepIn m (i + 1) .node) < n
+      by : (b : Bool) → eqb (i + 1) k ≡ b → cond b (takenIn m 0 .node) (takenIn m (i + 1) .node) < n
       by true e = below 0 (omega arith)
       by false e = below (i + 1) (omega (arith, eqb-false (i + 1) k e))
 
@@ -85,28 +85,28 @@ module _ (m : List ℕ) (k : ℕ) where
     after-is : (i : ℕ) → i < k → nodeAfter m k i ≡ firstNode (drop (suc i) steps) v
     after-is i h = by (eqb (i + 1) k) refl
       where
-        by : (b : Bool) → eqb (i + 1) k ≡ b → cond b (stepIn m 0 .node) (stepIn m (i + 1) .node) ≡ firstNode (drop (suc i) steps) v
+        by : (b : Bool) → eqb (i + 1) k ≡ b → cond b (takenIn m 0 .node) (takenIn m (i + 1) .node) ≡ firstNode (drop (suc i) steps) v
         by true e =
             sym (from-end v (suc i) (omega (arith, eqb-true (i + 1) k e)) ∙ along-first a ∙ from-step v 0 (omega arith))
         by false e =
-            ap (λ (j : ℕ). stepIn m j .node) (add-one i) ∙ sym (from-step v (suc i) (omega (arith, eqb-false (i + 1) k e)))
+            ap (λ (j : ℕ). takenIn m j .node) (add-one i) ∙ sym (from-step v (suc i) (omega (arith, eqb-false (i + 1) k e)))
 
     -- each step has a best edge to the node after it
-    step-best : (i : ℕ) → i < k → (e : Edge) × Best P (stepIn m i .node) (stepIn m i .label) (nodeAfter m k i) e
+    step-best : (i : ℕ) → i < k → (e : Edge) × Best P (takenIn m i .node) (takenIn m i .label) (nodeAfter m k i) e
     step-best i h =
-        let s = along-step a i (takenOf (stepIn m 0)) (omega (arith, steps-length)) in
+        let s = along-step a i (takenOf (takenIn m 0)) (omega (arith, steps-length)) in
         (s .0, subst₂ (λ (s′ : Taken) (x : ℕ). Best P (s′ .node) (s′ .label) x (s .0)) (steps-at i h) (sym (after-is i h)) (s .1))
 
     part-start : Part P v 0 []
     part-start = subst (λ (x : ℕ). Along P v [] x []) (along-first a) here
 
     part-more : {fs : List Edge} {f : Edge} (i : ℕ) → i < k → Part P v i fs →
-        Best P (stepIn m i .node) (stepIn m i .label) (nodeAfter m k i) f → Part P v (i + 1) (fs ++ (f ∷ []))
+        Best P (takenIn m i .node) (takenIn m i .label) (nodeAfter m k i) f → Part P v (i + 1) (fs ++ (f ∷ []))
     part-more {fs} {f} i h p b =
-        let first : Along P v (take i steps) (stepIn m i .node) fs = subst (λ (x : ℕ). Along P v (take i steps) x fs) (from-step v i h) p in
+        let first : Along P v (take i steps) (takenIn m i .node) fs = subst (λ (x : ℕ). Along P v (take i steps) x fs) (from-step v i h) p in
         let more = along-more first b in
-        let same : take i steps ++ (takenOf (stepIn m i) ∷ []) ≡ take (suc i) steps =
-        sym (take-suc steps i (takenOf (stepIn m 0)) (omega (arith, steps-length)) ∙ ap (λ s. take i steps ++ (s ∷ [])) (steps-at i h)) in
+        let same : take i steps ++ (takenOf (takenIn m i) ∷ []) ≡ take (suc i) steps =
+        sym (take-suc steps i (takenOf (takenIn m 0)) (omega (arith, steps-length)) ∙ ap (λ s. take i steps ++ (s ∷ [])) (steps-at i h)) in
         subst (λ (j : ℕ). Part P v j (fs ++ (f ∷ []))) (sym (add-one i))
         (subst₂ (λ ss (x : ℕ). Along P v ss x (fs ++ (f ∷ []))) same (after-is i h) more)
 
@@ -119,7 +119,7 @@ module _ (m : List ℕ) (k : ℕ) where
 
 -- the step i of a cycle, as a label from its node to the one after it
 pub turns-linked : {P : Plan} {r : Rules} {next m : List ℕ} {n k v : ℕ} {es : List Edge} → Turns P r next m n k v es → {i : ℕ} → i < k →
-    {s : links.Taken} → s ≡ stepIn m i → {x : ℕ} → x ≡ nodeAfter m k i → (e : Edge) × Linked P r next m n (s .node) (s .label) x e
+    {s : links.Taken} → s ≡ takenIn m i → {x : ℕ} → x ≡ nodeAfter m k i → (e : Edge) × Linked P r next m n (s .node) (s .label) x e
 turns-linked {P} {r} {next} {m} {n} {k} t {i} h is to =
     let b = step-best m k (t .along) i h in (
       b .0,
@@ -147,12 +147,12 @@ module _ {P : Plan} {m : List ℕ} {k v : ℕ} where
         omega (arith, s .ideal, size, walk-ideal-le P sd w),
       )
 
-  module _ {es : List Edge} (a : Along P v (stepsIn m k) v es) where
+  module _ {es : List Edge} (a : Along P v (firstSteps m k) v es) where
     pub summed-start : Summed P m k v 0 0 0
     summed-start = record { edges = []; along = part-start m k a; kept = refl; ideal = refl }
 
     pub summed-more : {i sum most : ℕ} {b : BestEdge} → i < k → Summed P m k v i sum most →
-        StandsFor P (stepIn m i .node) (stepIn m i .label) (nodeAfter m k i) b → Summed P m k v (i + 1) (sum + b .kept) (most + b .ideal)
+        StandsFor P (takenIn m i .node) (takenIn m i .label) (nodeAfter m k i) b → Summed P m k v (i + 1) (sum + b .kept) (most + b .ideal)
     summed-more {i} h s t = record {
       edges = s .edges ++ (t .edge ∷ []);
       along = part-more m k a i h (s .along) (t .best);
@@ -183,12 +183,12 @@ pub record Written (P : Plan) (m : List ℕ) (k v i : ℕ) (before : List ℕ) (
   pub along : Part m k P v i edges
   pub bytes : after ≡ overwrite before at (flatMap edgeBytes edges)
 
-module _ {P : Plan} {m : List ℕ} {k v : ℕ} {es : List Edge} (a : Along P v (stepsIn m k) v es) {before : List ℕ} {at : ℕ} where
+module _ {P : Plan} {m : List ℕ} {k v : ℕ} {es : List Edge} (a : Along P v (firstSteps m k) v es) {before : List ℕ} {at : ℕ} where
   pub written-start : Written P m k v 0 before at before
   written-start = record { edges = []; along = part-start m k a; bytes = sym (overwrite-none before at) }
 
   pub written-more : {i : ℕ} {after : List ℕ} {b : BestEdge} → i < k → at + stepSize * k ≤ length before → Written P m k v i before at after →
-      StandsFor P (stepIn m i .node) (stepIn m i .label) (nodeAfter m k i) b →
+      StandsFor P (takenIn m i .node) (takenIn m i .label) (nodeAfter m k i) b →
       Written P m k v (i + 1) before at (overwrite after (at + stepSize * i) (stepBytes (record { label = b .label; masks = b .masks })))
   written-more {i} {after} {b} h fits w t = record {
     edges = w .edges ++ (t .edge ∷ []);

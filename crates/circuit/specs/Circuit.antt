@@ -18,7 +18,7 @@ use Rattle.policy.specs.View.{tasksIn}
 use Rattle.policy.specs.declared.Rules.{Rules}
 use Rattle.graph.specs.View.{Planned}
 use Rattle.discovery.specs.Discovery.{Holds}
-use Rattle.links.specs.Links.{linksEnd, stepIn, stepsIn}
+use Rattle.links.specs.Links.{linksEnd, takenIn, firstSteps}
 use Rattle.circuit.specs.declared.BestEdge.{BestEdge}
 
 -- ---- one step
@@ -52,14 +52,14 @@ pub record StandsFor (P : Plan) (u l v : ℕ) (b : BestEdge) : Type 0 where
 
 -- the node after the step i of k: the next step's, and after the last one the first step's
 abbrev pub nodeAfter : List ℕ → ℕ → ℕ → ℕ
-nodeAfter m k i = cond (eqb (i + 1) k) (stepIn m 0 .node) (stepIn m (i + 1) .node)
+nodeAfter m k i = cond (eqb (i + 1) k) (takenIn m 0 .node) (takenIn m (i + 1) .node)
 
 -- n rows hold the plan's nodes, and its best edges es lead along the first k steps, from the node v back to it
 pub record Turns (P : Plan) (r : Rules) (next m : List ℕ) (n k v : ℕ) (es : List Edge) : Type 0 where
   pub planned : Planned P r next
   pub holds : Holds P (tasksIn r) m n
-  pub below : (i : ℕ) → i < k → stepIn m i .node < n
-  pub along : Along P v (stepsIn m k) v es
+  pub below : (i : ℕ) → i < k → takenIn m i .node < n
+  pub along : Along P v (firstSteps m k) v es
 
 -- there is a plan for which it is so
 pub record Turning (r : Rules) (m : List ℕ) (k : ℕ) : Type 0 where
@@ -79,5 +79,5 @@ stepsBytes ss = flatMap (λ s. stepCommand ∷ s .label ∷ s .masks) ss
 -- best edges along the first k steps are written from a place on
 pub record Writes (P : Plan) (m : List ℕ) (k v : ℕ) (before : List ℕ) (at : ℕ) (after : List ℕ) : Type 0 where
   pub edges : List Edge
-  pub along : Along P v (stepsIn m k) v edges
+  pub along : Along P v (firstSteps m k) v edges
   pub bytes : after ≡ overwrite before at (stepsBytes (map stepOf edges))

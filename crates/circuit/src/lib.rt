@@ -4,7 +4,7 @@ use policy::Rules;
 ghost use mathlib.Core.Path.{_≡_};
 ghost use mathlib.Core.List.{List};
 ghost use Prim.Native.Nat.{ℕ, _+_, _*_, _/_, _≤_, _<_};
-ghost use lib.ListN.{length, drop};
+ghost use lib.ListN.{length};
 ghost use Rattle.model.specs.Check as check-model;
 ghost use Rattle.model.specs.Graph as model;
 ghost use Rattle.model.specs.Limits.{maxSteps};
@@ -12,10 +12,10 @@ ghost use Rattle.model.specs.Plan.{Plan};
 ghost use Rattle.model.specs.Walk as walk-model;
 ghost use Rattle.certificate.specs.View.{stepSize};
 ghost use Rattle.policy.specs.View.{Ruled};
-ghost use Rattle.graph.specs.Outcomes.{noteRoom};
+ghost use Rattle.graph.specs.Outcomes.{noteRoom, NotesFree};
 ghost use Rattle.store.specs.Store.{maxRows, storeBytes, rowAt};
 ghost use Rattle.discovery.specs.Discovery.{nodeIn};
-ghost use Rattle.links.specs.Links.{linksEnd, stepIn};
+ghost use Rattle.links.specs.Links.{linksEnd, takenIn};
 ghost use Rattle.circuit.specs.Circuit.{Linked, Linking, StandsFor, nodeAfter, Turns, Turning, Writes};
 
 // A best edge of a label between two nodes: both gains, and the masks.
@@ -56,7 +56,7 @@ fn best_edge(
 ) -> BestEdge
     requires { ⌜ Ruled rules × Linking rules (now m) from label to × (noteRoom ≤ length (now notes)) ⌝ }
     ensures { λ r. ⌜ ((P : Plan) (next : List ℕ) (n : ℕ) (e : model.Edge) → Linked P rules next (now (m .entry)) n from label to e → StandsFor P from label to r) ⌝ }
-    ensures { λ _. ⌜ drop noteRoom (now (notes .exit)) ≡ drop noteRoom (now (notes .entry)) ⌝ }
+    ensures { λ _. ⌜ NotesFree (now (notes .entry)) (now (notes .exit)) ⌝ }
 {
     let node = node_at(m, from);
     let target = node_at(m, to);
@@ -87,8 +87,8 @@ fn next_node(m: &[u8], k: usize, i: usize) -> usize
 // A best edge of the step i of k.
 fn step_edge(rules: Rules, k: usize, i: usize, notes: &mut [u8], m: &[u8]) -> BestEdge
     requires { ⌜ Ruled rules × Turning rules (now m) k × (i < k) × (noteRoom ≤ length (now notes)) ⌝ }
-    ensures { λ r. ⌜ ((P : Plan) (next : List ℕ) (n v : ℕ) (es : List model.Edge) → Turns P rules next (now (m .entry)) n k v es → StandsFor P (stepIn (now (m .entry)) i .node) (stepIn (now (m .entry)) i .label) (nodeAfter (now (m .entry)) k i) r) ⌝ }
-    ensures { λ _. ⌜ drop noteRoom (now (notes .exit)) ≡ drop noteRoom (now (notes .entry)) ⌝ }
+    ensures { λ r. ⌜ ((P : Plan) (next : List ℕ) (n v : ℕ) (es : List model.Edge) → Turns P rules next (now (m .entry)) n k v es → StandsFor P (takenIn (now (m .entry)) i .node) (takenIn (now (m .entry)) i .label) (nodeAfter (now (m .entry)) k i) r) ⌝ }
+    ensures { λ _. ⌜ NotesFree (now (notes .entry)) (now (notes .exit)) ⌝ }
 {
     let step = links::step_at(m, i);
     let to = next_node(m, k, i);
@@ -99,7 +99,7 @@ fn step_edge(rules: Rules, k: usize, i: usize, notes: &mut [u8], m: &[u8]) -> Be
 pub fn gains(rules: Rules, k: usize, notes: &mut [u8], m: &[u8]) -> Sums
     requires { ⌜ Ruled rules × Turning rules (now m) k × (noteRoom ≤ length (now notes)) ⌝ }
     ensures { λ r. ⌜ ((P : Plan) (next : List ℕ) (n v : ℕ) (es : List model.Edge) → Turns P rules next (now (m .entry)) n k v es → (r .kept ≡ walk-model.kept es) × (r .ideal ≡ walk-model.ideal es)) ⌝ }
-    ensures { λ _. ⌜ drop noteRoom (now (notes .exit)) ≡ drop noteRoom (now (notes .entry)) ⌝ }
+    ensures { λ _. ⌜ NotesFree (now (notes .entry)) (now (notes .exit)) ⌝ }
 {
     let mut kept = 0;
     let mut ideal = 0;
@@ -129,7 +129,7 @@ pub fn lowest(kept: u32, ideal: u32) -> Fraction
 pub fn write_steps(rules: Rules, k: usize, notes: &mut [u8], m: &[u8], out: &mut [u8], at: usize)
     requires { ⌜ Ruled rules × Turning rules (now m) k × (noteRoom ≤ length (now notes)) × (at + stepSize * k ≤ length (now out)) ⌝ }
     ensures { λ _. ⌜ ((P : Plan) (next : List ℕ) (n v : ℕ) (es : List model.Edge) → Turns P rules next (now (m .entry)) n k v es → Writes P (now (m .entry)) k v (now (out .entry)) at (now (out .exit))) ⌝ }
-    ensures { λ _. ⌜ drop noteRoom (now (notes .exit)) ≡ drop noteRoom (now (notes .entry)) ⌝ }
+    ensures { λ _. ⌜ NotesFree (now (notes .entry)) (now (notes .exit)) ⌝ }
 {
     let mut i = 0;
     while i < k {

@@ -6,8 +6,10 @@ use mathlib.Core.Option.{none, some}
 use Prim.Native.Nat.{ℕ, suc, _≤_, _<_}
 use native.Mathlib.Omega.{arith}
 use lib.Dec.{ltb}
-use lib.ListN.{length, drop}
+use lib.ListN.{length}
 use borrow.Author.Tests.{ltb-true, ltb-false, lt-ltb, le-ltb}
+use Rattle.words.proofs.Free.{only-trans}
+use Rattle.model.specs.Bytes.{Only}
 use Rattle.model.specs.Graph as model
 use Rattle.model.specs.Graph.{nodes, tooLarge}
 use Rattle.model.specs.Limits.{maxNodes, maxStates}
@@ -29,13 +31,13 @@ none-stored m index = record { index = index; distinct = distinct-none m }
 
 -- the start node joins them
 pub begun : (r : Rules) (u : Node) → Starts u → (m m′ : List ℕ) (q : ℕ) → Indexed m 0 →
-    Adds (u .cells) (λ ts. nodeOf ts u ∷ []) m 0 m′ q → Begun r m′ q × (drop storeBytes m′ ≡ drop storeBytes m)
+    Adds (u .cells) (λ ts. nodeOf ts u ∷ []) m 0 m′ q → Begun r m′ q × Only 0 storeBytes m m′
 unfolding nodesIn rowsIn
 begun r u starts m m′ q index adds =
     let none-held : Holding (tasksIn r) m 0 = record { index = index; distinct = distinct-none m; cells = λ j h. absurd (omega arith) } in
     let known = adds .known (tasksIn r) none-held (starts .cells (tasksIn r)) in
     let one : q ≤ maxNodes = by (ltb maxNodes q) refl (known .many) in
-    (record { held = known .held one .0; nodes = known .held one .1 ∙ ap (λ (v : model.Node). v ∷ []) (starts .view (tasksIn r)) }, known .beyond)
+    (record { held = known .held one .0; nodes = known .held one .1 ∙ ap (λ (v : model.Node). v ∷ []) (starts .view (tasksIn r)) }, known .only)
   where
     by : (b : Bool) → ltb maxNodes q ≡ b → (maxNodes < q → maxNodes < 1) → q ≤ maxNodes
     by true e many = absurd (omega (arith, many (ltb-true maxNodes q e)))
@@ -47,10 +49,10 @@ place TooMany = 0
 place (Nodes n) = suc n
 
 -- the answer by the number of rows
-module _ (r : Rules) (next first begin after : List ℕ) (q : ℕ) (some-plan : Planning r next) (kept : drop storeBytes begin ≡ drop storeBytes first)
+module _ (r : Rules) (next first begin after : List ℕ) (q : ℕ) (some-plan : Planning r next) (kept : Only 0 storeBytes first begin)
     (known : (P : Plan) → Planned P r next → Known (tasksIn r) (nodes P) begin after q) where
-  beyond : drop storeBytes after ≡ drop storeBytes first
-  beyond = known (some-plan .plan) (some-plan .planned) .beyond ∙ kept
+  only : Only 0 storeBytes first after
+  only = only-trans kept (known (some-plan .plan) (some-plan .planned) .only)
 
   answer : (P : Plan) (b : Bool) → tooLarge P ≡ b → cond b none (some (length (nodes P))) ≡ cond (tooLarge P) none (some (length (nodes P)))
   answer P b e = ap (λ (t : Bool). cond t none (some (length (nodes P)))) (sym e)
@@ -60,7 +62,7 @@ module _ (r : Rules) (next first begin after : List ℕ) (q : ℕ) (some-plan : 
   discovers-many more = record {
     answer = λ P p. answer P _ (lt-ltb maxNodes (length (nodes P)) (known P p .many more));
     held = λ n e. absurd (omega (arith, ap place e));
-    beyond = beyond;
+    only = only;
   }
 
   pub discovers-nodes : q ≤ maxNodes → Discovers r next first after (Nodes q)
@@ -71,7 +73,7 @@ module _ (r : Rules) (next first begin after : List ℕ) (q : ℕ) (some-plan : 
     held = λ n e P p.
         subst (λ (k : ℕ). Holds P (tasksIn r) after k) (let same : q ≡ n = omega (arith, ap place e) in same)
         record { rows = known P p .held few .0; nodes = known P p .held few .1 };
-    beyond = beyond;
+    only = only;
   }
     where
       size : (P : Plan) → Planned P r next → q ≡ length (nodes P)

@@ -6,6 +6,7 @@ use Prim.Native.Nat.{ℕ, zero, suc, _+_, _-_, _*_, _%_, _^_, _≤_, _<_}
 use native.Mathlib.Nat.{zero-add}
 use native.Mathlib.Omega.{arith}
 use lib.ListN.{length, length-append}
+use Rattle.words.proofs.Free.{only-refl, only-trans}
 use Rattle.model.specs.Graph as model
 use Rattle.model.specs.Graph.{among}
 use Rattle.model.specs.Limits.{maxNodes, maxTasks}
@@ -42,7 +43,7 @@ module _ {E : Type 0} (join : List model.Node → E → List model.Node) (grows 
         record {
           held = λ h. let k = then .held h in (k .0, k .1 ∙ same);
           many = λ h. subst (λ (l : List model.Node). maxNodes < length l) same (then .many h);
-          beyond = then .beyond ∙ first .beyond;
+          only = only-trans (first .only) (then .only);
         }
 
     known-many : maxNodes < r → Known ts (foldl join ns (vs ++ ws)) m m′ r
@@ -51,7 +52,7 @@ module _ {E : Type 0} (join : List model.Node → E → List model.Node) (grows 
       many = λ h.
           subst (λ (l : List model.Node). maxNodes < length l) (sym (foldl-append join ns vs ws))
           (omega (arith, first .many h, fold-longer ws (foldl join ns vs)));
-      beyond = first .beyond;
+      only = first .only;
     }
 
 -- none at all
@@ -59,7 +60,7 @@ pub known-none : (ts : Tasks) (m : List ℕ) (n : ℕ) → Holding ts m n → Kn
 known-none ts m n held = record {
   held = λ h. (held, refl);
   many = λ h. absurd (omega (arith, held .index .few));
-  beyond = refl;
+  only = only-refl;
 }
 
 -- of the patterns in the notes

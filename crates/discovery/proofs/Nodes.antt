@@ -146,7 +146,7 @@ module _ (ts : Tasks) (u : Node) (fits : Cells ts cellCount (u .cells)) (m m′ 
   known-at i c after kept e good same = record {
     held = λ few. (holding ts m′ c after e (kept .index) (kept .distinct) good, ap (map (viewOf ts)) e ∙ same);
     many = λ more. absurd (omega (arith, kept .index .few));
-    beyond = kept .beyond;
+    only = kept .only;
   }
 
   known-kept : (r : Found) → Kept m m′ n (rowOf u) r → Known ts target m m′ (countIn r)
@@ -178,7 +178,7 @@ module _ (ts : Tasks) (u : Node) (fits : Cells ts cellCount (u .cells)) (m m′ 
           subst Result (sym at) record {
             held = λ few. absurd (omega arith);
             many = λ h. omega (arith, more, ltb-false (length rows) maxRows f);
-            beyond = kept .beyond;
+            only = kept .only;
           }
 
 -- the same, with what is known of the row and of the answer

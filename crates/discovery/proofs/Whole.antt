@@ -6,6 +6,7 @@ use Prim.Native.Nat.{ℕ, zero, suc, _+_, _-_, _^_, _≤_, _<_}
 use native.Mathlib.Omega.{arith}
 use lib.ListN.{length, getD, length-append}
 use borrow.Author.Tests.{lt-ltb, le-ltb}
+use Rattle.words.proofs.Free.{only-trans}
 use Rattle.model.specs.Graph.{Node, Edge, start, edges, edgesAt, edgesTo, edgeOf, add, explored, nodes}
 use Rattle.model.specs.Limits.{maxNodes, maxStates}
 use Rattle.model.specs.Lists.{flatMap, upFrom}
@@ -87,7 +88,7 @@ module _ (P : Plan) (r : Rules) (for : PlanFor P r) (next : List ℕ) (arcs : P 
       record {
         held = λ h. let t = now .held h in (t .0, t .1 ∙ same);
         many = λ h. subst (λ (l : List Node). maxNodes < length l) same (now .many h);
-        beyond = now .beyond ∙ held .beyond;
+        only = only-trans (held .only) (now .only);
       }
 
 -- a sound plan's walks stay within the states
@@ -136,7 +137,7 @@ module _ (P : Plan) (ts : Tasks) (first m : List ℕ) (q k : ℕ) (few : k ≤ m
   whole-many more = record {
     held = λ h. absurd (omega arith);
     many = λ h. explored-many P k few (known .many h);
-    beyond = known .beyond;
+    only = known .only;
   }
 
   pub whole-end : q ≤ maxNodes → q ≤ k → Known ts (nodes P) first m q

@@ -4,7 +4,8 @@ use mathlib.Core.Bool.{cond}
 use mathlib.Core.Option.{Option, none, some}
 use mathlib.Core.List.{List, [], _∷_, _++_, map, foldl}
 use Prim.Native.Nat.{ℕ, _+_, _<_, _≤_}
-use lib.ListN.{length, getD, take, drop}
+use lib.ListN.{length, getD, take}
+use Rattle.model.specs.Bytes.{Only}
 use Rattle.model.specs.Graph as model
 use Rattle.model.specs.Limits.{maxNodes}
 use Rattle.model.specs.Lists.{flatMap, upFrom}
@@ -60,7 +61,7 @@ countIn (At index count) = count
 pub record Known (ts : Tasks) (nodes : List model.Node) (before after : List ℕ) (r : ℕ) : Type 0 where
   pub held : r ≤ maxNodes → Holding ts after r × (nodesIn ts after r ≡ nodes)
   pub many : maxNodes < r → maxNodes < length nodes
-  pub beyond : drop storeBytes after ≡ drop storeBytes before
+  pub only : Only 0 storeBytes before after
 
 -- n distinct rows and their index
 pub record Stored (memory : List ℕ) (n : ℕ) : Type 0 where
@@ -117,4 +118,4 @@ pub record Held (r : Rules) (next memory : List ℕ) (n : ℕ) : Type 0 where
 pub record Discovers (r : Rules) (next before after : List ℕ) (d : Discovered) : Type 0 where
   pub answer : (P : Plan) → Planned P r next → sizeOf d ≡ cond (model.tooLarge P) none (some (length (model.nodes P)))
   pub held : (n : ℕ) → d ≡ Nodes n → (P : Plan) → Planned P r next → Holds P (tasksIn r) after n
-  pub beyond : drop storeBytes after ≡ drop storeBytes before
+  pub only : Only 0 storeBytes before after

@@ -3,7 +3,7 @@ use graph::Node;
 use policy::Rules;
 use store::Found;
 ghost use mathlib.Core.Path.{_≡_};
-ghost use lib.ListN.{length, drop};
+ghost use lib.ListN.{length};
 ghost use mathlib.Core.List.{[], _∷_};
 ghost use Prim.Native.Nat.{_^_, _<_, _≤_};
 ghost use mathlib.Core.Option.{some};
@@ -11,7 +11,7 @@ ghost use Rattle.model.specs.Graph.{edgesTo, nodes};
 ghost use Rattle.model.specs.Limits.{maxStates};
 ghost use Rattle.model.specs.Plan.{Plan};
 ghost use Rattle.policy.specs.View.{cellCount, Cells, tasksIn, Ruled};
-ghost use Rattle.graph.specs.Outcomes.{noteRoom};
+ghost use Rattle.graph.specs.Outcomes.{noteRoom, NotesFree};
 ghost use Rattle.graph.specs.Label.{orderIn, Readable};
 ghost use Rattle.graph.specs.View.{nodeOf, Planned, Planning};
 ghost use Rattle.store.specs.Store.{rowBytes, storeBytes};
@@ -111,7 +111,7 @@ fn explore_label(
     requires { ⌜ Ruled rules × Cells (tasksIn rules) cellCount (node .cells) ⌝ }
     requires { ⌜ Holding (tasksIn rules) (now m) n × (noteRoom ≤ length (now notes)) ⌝ }
     ensures { λ r. ⌜ Explored rules (λ P. edgesTo P (nodeOf (tasksIn rules) node) label (some state)) (now (m .entry)) n (now (m .exit)) r ⌝ }
-    ensures { λ _. ⌜ drop noteRoom (now (notes .exit)) ≡ drop noteRoom (now (notes .entry)) ⌝ }
+    ensures { λ _. ⌜ NotesFree (now (notes .entry)) (now (notes .exit)) ⌝ }
 {
     let noted = graph::reach(rules, node, label, notes);
     let count = noted.count;
@@ -133,7 +133,7 @@ fn follow_label(
     requires { ⌜ Ruled rules × Cells (tasksIn rules) cellCount (node .cells) × (node .state < maxStates) ⌝ }
     requires { ⌜ Holding (tasksIn rules) (now m) n × (noteRoom ≤ length (now notes)) ⌝ }
     ensures { λ r. ⌜ Explored rules (edgesBy (now (next .entry)) (nodeOf (tasksIn rules) node) label) (now (m .entry)) n (now (m .exit)) r ⌝ }
-    ensures { λ _. ⌜ drop noteRoom (now (notes .exit)) ≡ drop noteRoom (now (notes .entry)) ⌝ }
+    ensures { λ _. ⌜ NotesFree (now (notes .entry)) (now (notes .exit)) ⌝ }
 {
     let to = plan::next_state(next, node.state, label);
     if to == 0 {
@@ -154,7 +154,7 @@ fn explore_node(
     requires { ⌜ Ruled rules × Cells (tasksIn rules) cellCount (node .cells) × (node .state < maxStates) ⌝ }
     requires { ⌜ Holding (tasksIn rules) (now m) n × (noteRoom ≤ length (now notes)) ⌝ }
     ensures { λ r. ⌜ Explored rules (edgesBelow (now (next .entry)) (nodeOf (tasksIn rules) node) (2 ^ rules .count)) (now (m .entry)) n (now (m .exit)) r ⌝ }
-    ensures { λ _. ⌜ drop noteRoom (now (notes .exit)) ≡ drop noteRoom (now (notes .entry)) ⌝ }
+    ensures { λ _. ⌜ NotesFree (now (notes .entry)) (now (notes .exit)) ⌝ }
 {
     let labels = 1u8 << rules.count;
     let mut known = n;
@@ -179,7 +179,7 @@ fn explore_all(
 ) -> usize
     requires { ⌜ Ruled rules × Planning rules (now next) × Begun rules (now m) n × (noteRoom ≤ length (now notes)) ⌝ }
     ensures { λ r. ⌜ ((P : Plan) → Planned P rules (now (next .entry)) → Known (tasksIn rules) (nodes P) (now (m .entry)) (now (m .exit)) r) ⌝ }
-    ensures { λ _. ⌜ drop noteRoom (now (notes .exit)) ≡ drop noteRoom (now (notes .entry)) ⌝ }
+    ensures { λ _. ⌜ NotesFree (now (notes .entry)) (now (notes .exit)) ⌝ }
 {
     let mut known = n;
     let mut k = 0;
@@ -211,7 +211,7 @@ pub fn discover(
     requires { ⌜ Ruled rules × Planning rules (now next) ⌝ }
     requires { ⌜ (storeBytes ≤ length (now m)) × (noteRoom ≤ length (now notes)) ⌝ }
     ensures { λ r. ⌜ Discovers rules (now (next .entry)) (now (m .entry)) (now (m .exit)) r ⌝ }
-    ensures { λ _. ⌜ drop noteRoom (now (notes .exit)) ≡ drop noteRoom (now (notes .entry)) ⌝ }
+    ensures { λ _. ⌜ NotesFree (now (notes .entry)) (now (notes .exit)) ⌝ }
 {
     store::clear_index(m);
     let start = Node::start();

@@ -19,7 +19,7 @@ use Rattle.policy.specs.declared.Rules.{Rules}
 use Rattle.graph.specs.View.{Planned}
 use Rattle.potentials.specs.declared.Claim.{Claim}
 use Rattle.links.specs.Links.{linksAt, linksSize, stepsSize, stateIn}
-use Rattle.links.proofs.Frames.{only-refl, only-trans}
+use Rattle.words.proofs.Free.{only-refl, only-trans}
 use Rattle.distances.specs.declared.Tried.{Tried}
 use Rattle.distances.specs.Distances.{LinkOf, SearchIn, Sought, Advance, DoneBy}
 use Rattle.distances.proofs.Rows.{priced-kept}
@@ -29,9 +29,9 @@ module _ {P : Plan} {claim : Claim} where
   pub advance-none : {m : List ℕ} → SearchIn P claim m → Advance P claim m m (record { moved = false; steps = 0 })
   advance-none {m} s = record {
     progress = λ e. progress-none (LinkOf P claim) s;
-    links = λ e. only-refl linksAt linksSize m;
+    links = λ e. only-refl;
     circuit = λ h. absurd (omega arith);
-    only = only-refl linksAt (linksSize + stepsSize) m;
+    only = only-refl;
   }
 
   module _ {m m′ : List ℕ} {t : Tried} (a : Advance P claim m m′ t) (none : t .steps ≡ 0) where

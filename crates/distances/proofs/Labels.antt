@@ -14,7 +14,7 @@ use Rattle.policy.specs.View.{Ruled}
 use Rattle.policy.specs.declared.Rules.{Rules}
 use Rattle.potentials.specs.declared.Claim.{Claim}
 use Rattle.links.specs.Links.{linkIn, stateIn, tried, marked, Puts}
-use Rattle.links.proofs.Frames.{only-trans}
+use Rattle.words.proofs.Free.{only-trans}
 use Rattle.distances.specs.declared.Tried.{Tried}
 use Rattle.distances.specs.Distances.{LinkOf, SearchIn, Sought, Advance, DoneBy, RelaxesLabel, RelaxesNode}
 use Rattle.distances.proofs.Rows.{only-both}

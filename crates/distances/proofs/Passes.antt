@@ -9,8 +9,9 @@ use Rattle.theory.specs.Lightest.{maxWeight}
 use Rattle.theory.specs.Search.{Quiet, remaining}
 use Rattle.policy.specs.declared.Rules.{Rules}
 use Rattle.potentials.specs.declared.Claim.{Claim}
-use Rattle.links.specs.Links.{linksAt, linksSize, stepsSize, stateIn, Only, Begins}
-use Rattle.links.proofs.Frames.{only-refl, only-trans}
+use Rattle.model.specs.Bytes.{Only}
+use Rattle.links.specs.Links.{linksAt, linksSize, stepsSize, stateIn, Begins}
+use Rattle.words.proofs.Free.{only-refl, only-trans}
 use Rattle.distances.specs.declared.Tried.{Tried}
 use Rattle.distances.specs.Distances.{LinkOf, SearchIn, Priced, Sought, Turned, Passes, Settles}
 use Rattle.distances.proofs.Rows.{only-both, priced-kept}
@@ -39,9 +40,9 @@ module _ {P : Plan} {claim : Claim} where
   passed-none {m} s = record {
     search = λ e. s;
     rest = λ e f. absurd (true≢false f);
-    links = λ e. only-refl linksAt linksSize m;
+    links = λ e. only-refl;
     circuit = λ h. absurd (omega arith);
-    only = only-refl linksAt (linksSize + stepsSize) m;
+    only = only-refl;
   }
 
   module _ {m m′ : List ℕ} {moved : Bool} {steps : ℕ} (p : Passed P claim m m′ moved steps) where

@@ -22,10 +22,10 @@ use Rattle.theory.proofs.Search.{relaxed, Alike, Relaxable, relax-from, search-
 use Rattle.theory.proofs.Progress.{progress-none, progress-relax, progress-alike}
 use Rattle.theory.proofs.Circuits.{circuit-of}
 use Rattle.potentials.specs.declared.Claim.{Claim}
-use Rattle.links.specs.Links.{linksAt, linksSize, stepsSize, linkIn, unknown, waiting, stepIn, stateIn, takenOf, stepsIn, Puts, Climbs, WayUp, Closes}
+use Rattle.links.specs.Links.{linksAt, linksSize, stepsSize, linkIn, unknown, waiting, takenIn, stateIn, takenOf, firstSteps, Puts, Climbs, WayUp, Closes}
 use Rattle.links.specs.declared.Link.{Link}
 use Rattle.links.specs.declared.Way.the-variants.{Apart, Above}
-use Rattle.links.proofs.Frames.{only-refl, only-wider}
+use Rattle.words.proofs.Free.{only-refl, only-wider}
 use Rattle.distances.specs.Distances.{LinkOf, Offer, Relaxes}
 use Rattle.distances.specs.declared.Tried.{Tried}
 
@@ -86,9 +86,9 @@ module _ {P : Plan} {claim : Claim} {m : List ℕ} {u l v : ℕ} {z : ℤ} (o : 
   relax-keeps e = record {
     advance = record {
       progress = λ h. progress-none (LinkOf P claim) (o .search);
-      links = λ h. only-refl linksAt linksSize m;
+      links = λ h. only-refl;
       circuit = λ h. absurd (omega (arith, h));
-      only = only-refl linksAt (linksSize + stepsSize) m;
+      only = only-refl;
     };
     reached = λ h. not-shorter (linkIn m v) z e;
     source = λ h. refl;
@@ -154,17 +154,17 @@ module _ {P : Plan} {claim : Claim} {m : List ℕ} {u l v : ℕ} {z : ℤ} (o : 
       there : stateIn m .known v ≡ true
       there = subst (λ (x : ℕ). stateIn m .known x ≡ true) (way .0) (upward-way (o .search .tree .upward) j u (o .from) (o .known) (way .1) .1)
 
-      size : length (stepsIn m′ (j + 1)) ≡ suc j
+      size : length (firstSteps m′ (j + 1)) ≡ suc j
       size =
           let last : List search.Taken = record { node = u; label = l } ∷ [] in
           ap length (closes .steps) ∙ length-append (trail (stateIn m .parent) (stateIn m .label) j u) last
           ∙ ap (λ (k : ℕ). k + 1) (length-trail (stateIn m .parent) (stateIn m .label) j u) ∙ add-one j
 
       -- every node of it is one of the first n
-      nodes-below : (i : ℕ) → i < j + 1 → stepIn m′ i .node < claim .n
+      nodes-below : (i : ℕ) → i < j + 1 → takenIn m′ i .node < claim .n
       nodes-below i h =
-          let mem = subst (List·Memᴰ (takenOf (stepIn m′ i))) (closes .steps) (Memᴰ·map (λ x. takenOf (stepIn m′ x)) {a = i} (mem-upFrom 0 (j + 1) (omega arith) (omega arith))) in
-          ⊎-elim (λ k. trail-below (o .search .tree .upward) (stateIn m .label) j u (o .from) (o .known) (way .1) (takenOf (stepIn m′ i)) k)
+          let mem = subst (List·Memᴰ (takenOf (takenIn m′ i))) (closes .steps) (Memᴰ·map (λ x. takenOf (takenIn m′ x)) {a = i} (mem-upFrom 0 (j + 1) (omega arith) (omega arith))) in
+          ⊎-elim (λ k. trail-below (o .search .tree .upward) (stateIn m .label) j u (o .from) (o .known) (way .1) (takenOf (takenIn m′ i)) k)
           (λ k. subst (λ (s : search.Taken). s .node < claim .n) (sym (List·Memᴰ·eq-of-singleton k)) (o .from))
           (List·Memᴰ·append-cases (trail (stateIn m .parent) (stateIn m .label) j u) mem)
 

@@ -4,7 +4,7 @@ use mathlib.Core.Logic.{inl, inr}
 use mathlib.Core.List.{List, map}
 use Prim.Native.Nat.{ℕ, _+_, _*_, _<_, _≤_}
 use native.Mathlib.Omega.{arith}
-use Rattle.model.specs.Bytes.{number}
+use Rattle.model.specs.Bytes.{number, Only}
 use Rattle.model.specs.Lists.{upFrom}
 use Rattle.model.specs.Plan.{Plan}
 use Rattle.model.proofs.Lists.{map-same}
@@ -17,8 +17,8 @@ use Rattle.store.proofs.Rows.{rows-same}
 use Rattle.discovery.specs.Discovery.{nodeIn, viewOf, nodesIn, Holding, Holds}
 use Rattle.potentials.specs.declared.Claim.{Claim}
 use Rattle.potentials.specs.Potentials.{Numbered}
-use Rattle.links.specs.Links.{linksAt, linksSize, stepsSize, stepAt, stepIn, takenOf, stepsIn, Only}
-use Rattle.links.proofs.Frames.{only-part, only-wider}
+use Rattle.links.specs.Links.{linksAt, linksSize, stepsSize, stepPlace, takenIn, takenOf, firstSteps}
+use Rattle.words.proofs.Free.{only-part, only-wider}
 use Rattle.distances.specs.Distances.{Priced}
 
 -- links are among links and steps
@@ -27,14 +27,14 @@ only-both o = only-wider o linksAt (linksSize + stepsSize) (omega arith) (omega 
 
 -- the steps beside a change of links
 module _ {m m′ : List ℕ} (o : Only linksAt linksSize m m′) where
-  pub step-kept : (i : ℕ) → stepIn m′ i ≡ stepIn m i
+  pub step-kept : (i : ℕ) → takenIn m′ i ≡ takenIn m i
   step-kept i = λ j. record {
-    node = number (only-part o (stepAt i) 2 (inr (omega arith)) j);
-    label = o .bytes (stepAt i + 2) (inr (omega arith)) j;
+    node = number (only-part o (stepPlace i) 2 (inr (omega arith)) j);
+    label = o .others (stepPlace i + 2) (inr (omega arith)) j;
   }
 
-  pub steps-kept : (k : ℕ) → stepsIn m′ k ≡ stepsIn m k
-  steps-kept k = map-same (λ i. takenOf (stepIn m′ i)) (λ i. takenOf (stepIn m i)) (upFrom 0 k) (λ i e. ap takenOf (step-kept i))
+  pub steps-kept : (k : ℕ) → firstSteps m′ k ≡ firstSteps m k
+  steps-kept k = map-same (λ i. takenOf (takenIn m′ i)) (λ i. takenOf (takenIn m i)) (upFrom 0 k) (λ i e. ap takenOf (step-kept i))
 
 -- a change behind the store
 module _ {k : ℕ} {m m′ : List ℕ} (o : Only linksAt k m m′) where

@@ -13,7 +13,8 @@ use Rattle.store.specs.Store.{maxRows, indexIn}
 use Rattle.discovery.specs.Discovery.{rowOf}
 use Rattle.potentials.specs.declared.Claim.{Claim}
 use Rattle.potentials.specs.Potentials.{withPattern}
-use Rattle.links.specs.Links.{linksAt, linksSize, stepsSize, stateIn, Only}
+use Rattle.model.specs.Bytes.{Only}
+use Rattle.links.specs.Links.{linksAt, linksSize, stepsSize, stateIn}
 use Rattle.distances.specs.Distances.{LinkOf, Advance, Reached, weightOf, targetOf, distanceBy, Offers, RelaxesOne, RelaxesAll}
 use Rattle.distances.specs.declared.Outcomes.{Outcomes}
 use Rattle.distances.specs.declared.Tried.{Tried}

@@ -21,7 +21,8 @@ use Rattle.discovery.specs.Discovery.{Holds}
 use Rattle.potentials.specs.declared.Claim.{Claim}
 use Rattle.potentials.specs.Potentials.{scoreIn, gainIn}
 use Rattle.potentials.specs.Best.{placeOf}
-use Rattle.links.specs.Links.{linksAt, linksSize, stepsSize, linksEnd, stepIn, stateIn, stepsIn, Only}
+use Rattle.model.specs.Bytes.{Only}
+use Rattle.links.specs.Links.{linksAt, linksSize, stepsSize, linksEnd, takenIn, stateIn, firstSteps}
 use Rattle.distances.specs.declared.Outcomes.{Outcomes}
 use Rattle.distances.specs.declared.Tried.{Tried}
 
@@ -60,8 +61,8 @@ pub record Seeking (r : Rules) (next m : List ℕ) (claim : Claim) : Type 0 wher
 pub record Turned (P : Plan) (claim : Claim) (m : List ℕ) (k : ℕ) : Type 0 where
   pub node : ℕ
   pub below : node < claim .n
-  pub circuit : Circuit P (claim .p) (claim .q) (claim .n) node (stepsIn m k)
-  pub nodes : (i : ℕ) → i < k → stepIn m i .node < claim .n
+  pub circuit : Circuit P (claim .p) (claim .q) (claim .n) node (firstSteps m k)
+  pub nodes : (i : ℕ) → i < k → takenIn m i .node < claim .n
 
 -- the search has come further, and every byte of no link is as it was; or a circuit stands in the steps, and every byte of neither is
 pub record Advance (P : Plan) (claim : Claim) (before after : List ℕ) (t : Tried) : Type 0 where

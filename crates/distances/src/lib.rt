@@ -9,11 +9,11 @@ ghost use mathlib.Core.Path.{_≡_};
 ghost use mathlib.Core.Bool.{true, _||_};
 ghost use Prim.Native.Nat.{_<_, _≤_};
 ghost use lib.Dec.{eqb};
-ghost use lib.ListN.{length, drop};
+ghost use lib.ListN.{length};
 ghost use lib.Signed.{ltZ};
 ghost use Rattle.model.specs.Plan.{Plan};
 ghost use Rattle.policy.specs.View.{Ruled};
-ghost use Rattle.graph.specs.Outcomes.{noteRoom};
+ghost use Rattle.graph.specs.Outcomes.{noteRoom, NotesFree};
 ghost use Rattle.potentials.specs.Potentials.{Numbered};
 ghost use Rattle.links.specs.Links.{unknown, stateIn};
 ghost use Rattle.distances.specs.Distances.{Priced, Pricing, Sought, Seeking, Offer, Offered, Relaxes, highOf, Offers, Offering, RelaxesOne, RelaxesAll, RelaxesLabel, RelaxesNode, Passes, Settles};
@@ -137,7 +137,7 @@ fn relax_label(
 ) -> Tried
     requires { ⌜ Ruled rules × Seeking rules (now next) (now m) claim × Numbered (now m) (claim .n) u node × (stateIn (now m) .known u ≡ true) × (noteRoom ≤ length (now notes)) ⌝ }
     ensures { λ t. ⌜ ((P : Plan) → Sought P rules (now (next .entry)) (now (m .entry)) claim → RelaxesLabel P claim u label (now (m .entry)) (now (m .exit)) t) ⌝ }
-    ensures { λ _. ⌜ drop noteRoom (now (notes .exit)) ≡ drop noteRoom (now (notes .entry)) ⌝ }
+    ensures { λ _. ⌜ NotesFree (now (notes .entry)) (now (notes .exit)) ⌝ }
 {
     let to = plan::next_state(next, node.state, label);
     if to == 0 {
@@ -170,7 +170,7 @@ fn relax_node(
 ) -> Tried
     requires { ⌜ Ruled rules × Seeking rules (now next) (now m) claim × (u < claim .n) × (noteRoom ≤ length (now notes)) ⌝ }
     ensures { λ t. ⌜ ((P : Plan) → Sought P rules (now (next .entry)) (now (m .entry)) claim → RelaxesNode P claim u (now (m .entry)) (now (m .exit)) t) ⌝ }
-    ensures { λ _. ⌜ drop noteRoom (now (notes .exit)) ≡ drop noteRoom (now (notes .entry)) ⌝ }
+    ensures { λ _. ⌜ NotesFree (now (notes .entry)) (now (notes .exit)) ⌝ }
 {
     let mut moved = false;
     let link = links::link_to(m, u);
@@ -203,7 +203,7 @@ fn pass(
 ) -> Tried
     requires { ⌜ Ruled rules × Seeking rules (now next) (now m) claim × (noteRoom ≤ length (now notes)) ⌝ }
     ensures { λ t. ⌜ ((P : Plan) → Sought P rules (now (next .entry)) (now (m .entry)) claim → Passes P claim (now (m .entry)) (now (m .exit)) t) ⌝ }
-    ensures { λ _. ⌜ drop noteRoom (now (notes .exit)) ≡ drop noteRoom (now (notes .entry)) ⌝ }
+    ensures { λ _. ⌜ NotesFree (now (notes .entry)) (now (notes .exit)) ⌝ }
 {
     let n = claim.n;
     let mut moved = false;
@@ -229,7 +229,7 @@ pub fn settle(
 ) -> usize
     requires { ⌜ Ruled rules × Pricing rules (now next) (now m) claim × (noteRoom ≤ length (now notes)) ⌝ }
     ensures { λ k. ⌜ ((P : Plan) → Priced P rules (now (next .entry)) (now (m .entry)) claim → Settles P claim (now (m .entry)) (now (m .exit)) k) ⌝ }
-    ensures { λ _. ⌜ drop noteRoom (now (notes .exit)) ≡ drop noteRoom (now (notes .entry)) ⌝ }
+    ensures { λ _. ⌜ NotesFree (now (notes .entry)) (now (notes .exit)) ⌝ }
 {
     links::begin(m);
     let mut moved = true;

@@ -6,7 +6,8 @@ use Rattle.model.specs.Check.{CheckAnswer}
 use Rattle.model.specs.Trace.{TraceResult}
 use Rattle.solver.specs.declared.Answer.{Answer}
 use Rattle.solver.specs.declared.Answer.the-variants.{Refused, Written}
-use Rattle.solver.specs.Promise.{refusalNumber, Solves}
+use Rattle.refusals.specs.Numbers.{refusalNumber}
+use Rattle.solver.specs.Promise.{Solves}
 
 -- the bytes written, or 65,536 and the number of the refusal
 abbrev pub traceCode : TraceResult → ℕ

@@ -1,9 +1,11 @@
 // The calls for programs in C and Rust: numbers, byte slices and arrays of numbers alone.
 ghost use mathlib.Core.Path.{_≡_};
+ghost use lib.Dec.{leb};
 ghost use lib.ListN.{length};
+ghost use Rattle.model.specs.Bytes.{workAfter};
 ghost use Rattle.model.specs.Check.{check};
+ghost use Rattle.model.specs.Limits.{workRoom};
 ghost use Rattle.model.specs.Trace as model-trace;
-ghost use Rattle.checker.specs.Promise.{memoryAfter};
 ghost use Rattle.exports.specs.Codes.{traceCode, checkCode, numbersAfter, SolvesAs};
 use tracer::Answer;
 
@@ -30,7 +32,7 @@ pub extern "C" fn jovnetal_check(
 ) -> u64
     ensures { λ r. ⌜ r ≡ checkCode (check (now (plan .entry)) (now (certificate .entry)) (length (now (work .entry)))) ⌝ }
     ensures { λ _. ⌜ now (numbers .exit) ≡ numbersAfter (check (now (plan .entry)) (now (certificate .entry)) (length (now (work .entry)))) (now (numbers .entry)) ⌝ }
-    ensures { λ _. ⌜ now (work .exit) ≡ memoryAfter (now (work .entry)) ⌝ }
+    ensures { λ _. ⌜ now (work .exit) ≡ workAfter (leb workRoom (length (now (work .entry)))) (now (work .entry)) ⌝ }
 {
     let answer = checker::check(plan, certificate, work);
     match answer {

@@ -22,25 +22,26 @@ use Rattle.model.specs.Plan.{Task}
 use Rattle.model.specs.Slot.{noTask}
 use Rattle.theory.proofs.Bits.{ones-below}
 use Rattle.model.proofs.Lists.{keep-keep, keep-same, mem-of-upFrom, map-same, flatMap-append, mem-of-flatMap, mem-getD}
+use Rattle.words.proofs.Free.{only-refl, only-trans}
 use Rattle.masks.specs.Clear.{NextClear}
 use Rattle.masks.proofs.Groups.{groupBelow, length-table, mem-group, group-below, group-below-le, groupStart-le, group-below-from-one}
 use Rattle.theory.proofs.Edges.{mem-choices}
 use Rattle.policy.specs.View.{Tasks, InRange}
 use Rattle.policy.proofs.Lists.{map-flatMap}
-use Rattle.graph.specs.Outcomes.{Outcome, note, notesIn, Room, Noting, tasksIn, Released, chosenWith, outcomeIn, outcomeOf, outcomes, placed, outcomeFrom, outcomesFrom, outcomesWith, clearIn, nextOutcomes, maskOutcomes}
+use Rattle.graph.specs.Outcomes.{Outcome, note, noteRoom, notesIn, Room, Noting, tasksReleased, Released, chosenWith, outcomeIn, outcomeOf, outcomes, placed, outcomeFrom, outcomesFrom, outcomesWith, clearIn, nextOutcomes, maskOutcomes}
 use Rattle.graph.specs.declared.Release.{Release}
 use Rattle.graph.specs.declared.Chosen.{Chosen}
 
 -- ---- noting one list of outcomes after another
 
 pub noting-none : (m : List ℕ) (n : ℕ) → Room m n → Noting [] m n m n
-noting-none m n r = record { notes = refl; rest = refl; room = r }
+noting-none m n r = record { notes = refl; only = only-refl; room = r }
 
 pub noting-append : (os os′ : List Outcome) (m₀ : List ℕ) (n₀ : ℕ) (m₁ : List ℕ) (n₁ : ℕ) (m₂ : List ℕ) (n₂ : ℕ)
     → Noting os m₀ n₀ m₁ n₁ → Noting os′ m₁ n₁ m₂ n₂ → Noting (os ++ os′) m₀ n₀ m₂ n₂
 noting-append os os′ m₀ n₀ m₁ n₁ m₂ n₂ a b = record {
   notes = b .notes ∙ ap (λ n. foldl note n os′) (a .notes) ∙ sym (foldl-append note (notesIn m₀ n₀) os os′);
-  rest = b .rest ∙ a .rest;
+  only = only-trans (a .only) (b .only);
   room = b .room;
 }
 
@@ -127,7 +128,7 @@ outcomes-cons t ts l c =
 
 module _ (r : Release) (c : Chosen) (h : Released r) where
   abbrev task : Task
-  task = getD (tasksIn r) (c .task) noTask
+  task = getD (tasksReleased r) (c .task) noTask
 
   abbrev groupEnd : ℕ
   groupEnd = groupStart (task .work) + length (groupBelow (task .window) (task .work))
@@ -135,8 +136,8 @@ module _ (r : Release) (c : Chosen) (h : Released r) where
   -- no task is left
   pub next-last : c .task ≡ r .count → nextOutcomes r c ≡ outcomeIn c ∷ []
   next-last e =
-      let all : length (tasksIn r) ≤ c .task = omega (arith, h .size) in
-      rw (drop-of-length-le (tasksIn r) all) (outcomes-nil (r .label / 2 ^ c .task) c)
+      let all : length (tasksReleased r) ≤ c .task = omega (arith, h .size) in
+      rw (drop-of-length-le (tasksReleased r) all) (outcomes-nil (r .label / 2 ^ c .task) c)
 
   module _ (lt : c .task < r .count) where
     pub task-range : InRange task
@@ -146,25 +147,25 @@ module _ (r : Release) (c : Chosen) (h : Released r) where
     half = shr-shr (r .label) (c .task) 1
 
     next-masks : (b : Bool) → eqb (r .label / 2 ^ c .task % 2) 1 ≡ b
-        → nextOutcomes r c ≡ outcomesWith task (drop (c .task + 1) (tasksIn r)) (r .label / 2 ^ (c .task + 1)) c (masksOf task b (c .pattern))
+        → nextOutcomes r c ≡ outcomesWith task (drop (c .task + 1) (tasksReleased r)) (r .label / 2 ^ (c .task + 1)) c (masksOf task b (c .pattern))
     next-masks b e =
         ap (λ ts. outcomesFrom ts (r .label / 2 ^ c .task) c)
-        (drop-cons (tasksIn r) (c .task) noTask (omega (arith, h .size)) ∙ ap (λ k. task ∷ drop k (tasksIn r)) (sym (add-one (c .task))))
-        ∙ outcomes-cons task (drop (c .task + 1) (tasksIn r)) (r .label / 2 ^ c .task) c
-        ∙ ap₂ (λ l b. outcomesWith task (drop (c .task + 1) (tasksIn r)) l c (masksOf task b (c .pattern))) half e
+        (drop-cons (tasksReleased r) (c .task) noTask (omega (arith, h .size)) ∙ ap (λ k. task ∷ drop k (tasksReleased r)) (sym (add-one (c .task))))
+        ∙ outcomes-cons task (drop (c .task + 1) (tasksReleased r)) (r .label / 2 ^ c .task) c
+        ∙ ap₂ (λ l b. outcomesWith task (drop (c .task + 1) (tasksReleased r)) l c (masksOf task b (c .pattern))) half e
 
     pub next-idle : eqb (r .label / 2 ^ c .task % 2) 1 ≡ false → nextOutcomes r c ≡ maskOutcomes r c 0 1
     next-idle e =
         next-masks false e
-        ∙ ap (outcomesWith task (drop (c .task + 1) (tasksIn r)) (r .label / 2 ^ (c .task + 1)) c) (masks-idle (c .pattern) task)
+        ∙ ap (outcomesWith task (drop (c .task + 1) (tasksReleased r)) (r .label / 2 ^ (c .task + 1)) c) (masks-idle (c .pattern) task)
 
     pub next-released : eqb (r .label / 2 ^ c .task % 2) 1 ≡ true
         → nextOutcomes r c ≡ maskOutcomes r c 0 1 ++ maskOutcomes r c (groupStart (task .work)) groupEnd
     unfolding outcomesWith
     next-released e =
         next-masks true e
-        ∙ ap (outcomesWith task (drop (c .task + 1) (tasksIn r)) (r .label / 2 ^ (c .task + 1)) c) (masks-released (c .pattern) task task-range)
-        ∙ flatMap-append (λ m. outcomesFrom (drop (c .task + 1) (tasksIn r)) (r .label / 2 ^ (c .task + 1)) (chosenWith task c m))
+        ∙ ap (outcomesWith task (drop (c .task + 1) (tasksReleased r)) (r .label / 2 ^ (c .task + 1)) c) (masks-released (c .pattern) task task-range)
+        ∙ flatMap-append (λ m. outcomesFrom (drop (c .task + 1) (tasksReleased r)) (r .label / 2 ^ (c .task + 1)) (chosenWith task c m))
         (clearIn (c .pattern) 0 1) (clearIn (c .pattern) (groupStart (task .work)) groupEnd)
 
   -- the masks from at up to end

@@ -6,7 +6,7 @@ use mathlib.Core.List.{List, [], _∷_, _++_, map}
 use Prim.Native.Nat.{ℕ, _+_, _*_, _/_, _^_, _<_, _≤_}
 use native.Mathlib.Decide.{decLt}
 use native.Mathlib.Omega.{arith}
-use lib.ListN.{length, getD, set, drop, length-drop, replicate, length-append, length-set, length-replicate, getD-replicate}
+use lib.ListN.{length, getD, set, drop, replicate, length-append, length-set, length-replicate, getD-replicate}
 use lib.Seq.{ext-getD, getD-take, getD-drop}
 use borrow.Author.Tests.{lt-ltb, le-leb, lt-leb, eq-eqb, ne-eqb}
 use Rattle.model.specs.Bytes.{number, bytes, part, overwrite}
@@ -14,10 +14,11 @@ use Rattle.model.specs.Limits.{maxTasks}
 use Rattle.model.specs.Lists.{keep, upFrom, one}
 use Rattle.model.proofs.Lists.{length-keep-le, getD-table}
 use Rattle.policy.proofs.Lists.{length-table}
-use Rattle.words.proofs.Memory.{overwrite-length, overwrite-part, overwrite-inside, overwrite-outside, overwrite-frame, overwrite-join, part-length}
+use Rattle.words.proofs.Free.{only-refl, only-trans, overwrite-only}
+use Rattle.words.proofs.Memory.{overwrite-length, overwrite-part, overwrite-inside, overwrite-frame, overwrite-join, part-length}
 use Rattle.words.proofs.Numbers.{bytes-length}
 use Rattle.words.proofs.Words.{number-overwrite}
-use Rattle.graph.specs.Outcomes.{patternCount, Outcome, Best, Notes, none, note, scoreBytes, patternBytes, bestBytes, orderAt, noteRoom, bestIn, patternIn, notesIn, noted, Tallied, Room, Noting, notNoted, nothingNoted, Cleared, InBounds, outcomeIn}
+use Rattle.graph.specs.Outcomes.{patternCount, Outcome, Best, Notes, notNoted, note, scoreBytes, patternBytes, bestBytes, orderAt, noteRoom, NotesFree, bestIn, patternIn, notesIn, noted, Tallied, Room, Noting, nothingNoted, Cleared, InBounds, outcomeIn}
 use Rattle.graph.specs.declared.Chosen.{Chosen}
 use Rattle.graph.proofs.Tables.{table-same, table-set, table-const, table-more, length-keep-set}
 
@@ -26,7 +27,7 @@ use Rattle.graph.proofs.Tables.{table-same, table-set, table-const, tab
 abbrev pub bestOf : Outcome → Best
 bestOf o = record { score = o .gain + 1; masks = o .masks }
 
-module _ (n : Notes) (o : Outcome) (s : ℕ) (is : getD (n .best) (o .pattern) none .score ≡ s) where
+module _ (n : Notes) (o : Outcome) (s : ℕ) (is : getD (n .best) (o .pattern) notNoted .score ≡ s) where
   pub note-less : o .gain < s → note n o ≡ n
   unfolding note
   note-less h = rw (is, lt-leb s (o .gain) h, ne-eqb s 0 (λ e. omega arith))
@@ -44,11 +45,11 @@ pub tally-note : (n : Notes) (o : Outcome) → o .pattern < length (n .best) →
 tally-note n o below t = by (decLt (o .gain) s) (decLt 0 s)
   where
     s : ℕ
-    s = getD (n .best) (o .pattern) none .score
+    s = getD (n .best) (o .pattern) notNoted .score
 
-    more : length (keep noted (set (n .best) (o .pattern) (bestOf o))) + one (noted (getD (n .best) (o .pattern) none))
+    more : length (keep noted (set (n .best) (o .pattern) (bestOf o))) + one (noted (getD (n .best) (o .pattern) notNoted))
         ≡ length (keep noted (n .best)) + 1
-    more = length-keep-set noted (n .best) (o .pattern) (bestOf o) none below ∙ rw (lt-ltb 0 (o .gain + 1) (omega arith))
+    more = length-keep-set noted (n .best) (o .pattern) (bestOf o) notNoted below ∙ rw (lt-ltb 0 (o .gain + 1) (omega arith))
 
     by : Dec (o .gain < s) → Dec (0 < s) → Tallied (note n o)
     by (yes h) d = rw (note-less n o s refl h) t
@@ -60,12 +61,9 @@ tally-note n o below t = by (decLt (o .gain) s) (decLt 0 s)
 
 -- ---- what a write leaves of the notes in memory
 
--- what stands behind the notes
-rest-kept : (m : List ℕ) (at : ℕ) (bs : List ℕ) → noteRoom ≤ length m → at + length bs ≤ noteRoom → drop noteRoom (overwrite m at bs) ≡ drop noteRoom m
-rest-kept m at bs room fits =
-    let size : length (overwrite m at bs) ≡ length m = overwrite-length m at bs (omega arith) in
-    ext-getD 0 (drop noteRoom (overwrite m at bs)) (drop noteRoom m) (simp (length-drop, size))
-    (λ i h. rw (getD-drop, getD-drop) (overwrite-outside m at bs (omega arith) (noteRoom + i) (inr (omega arith))))
+-- a write within the notes
+notes-free : (m : List ℕ) (at : ℕ) (bs : List ℕ) → noteRoom ≤ length m → at + length bs ≤ noteRoom → NotesFree m (overwrite m at bs)
+notes-free m at bs room fits = overwrite-only m at bs (omega arith) 0 noteRoom (omega arith) (omega arith)
 
 -- a score and masks are one write
 pub best-written : (m : List ℕ) (at s : ℕ) (masks : List ℕ) → length masks ≡ maxTasks → at + bestBytes ≤ length m
@@ -126,11 +124,8 @@ module _ (m : List ℕ) (count : ℕ) (room : noteRoom ≤ length m) (few : coun
         (table-same (patternIn m) (patternIn withBest) count
         (λ k h. ap number (frame (orderAt + k * patternBytes) patternBytes (inr (omega arith)))))
 
-    pub rest-best : drop noteRoom withBest ≡ drop noteRoom m
-    rest-best = rest-kept m (p * bestBytes) (bytes scoreBytes s ++ masks) room (omega (arith, long))
-
-    pub length-best : length withBest ≡ length m
-    length-best = overwrite-length m (p * bestBytes) (bytes scoreBytes s ++ masks) (omega (arith, long))
+    pub free-best : NotesFree m withBest
+    free-best = notes-free m (p * bestBytes) (bytes scoreBytes s ++ masks) room (omega (arith, long))
 
   module _ (p : ℕ) (small : p < 256 ^ patternBytes) (free : count < patternCount) where
     abbrev withPattern : List ℕ
@@ -153,9 +148,9 @@ module _ (m : List ℕ) (count : ℕ) (room : noteRoom ≤ length m) (few : coun
         kept at k h =
             overwrite-frame m (orderAt + count * patternBytes) (bytes patternBytes p) (omega (arith, bytes-length patternBytes p)) at k (inl h)
 
-    pub rest-order : drop noteRoom withPattern ≡ drop noteRoom m
-    rest-order =
-        rest-kept m (orderAt + count * patternBytes) (bytes patternBytes p) room (omega (arith, bytes-length patternBytes p))
+    pub free-order : NotesFree m withPattern
+    free-order =
+        notes-free m (orderAt + count * patternBytes) (bytes patternBytes p) room (omega (arith, bytes-length patternBytes p))
 
 -- ---- noting a choice's outcome in memory
 
@@ -188,14 +183,14 @@ module _ (m : List ℕ) (count : ℕ) (r : Room m count) (c : Chosen) (h : InBou
   small : c .gain + 1 < 256 ^ scoreBytes
   small = omega (arith, h .gain, h .task)
 
-  found : getD (before .best) pattern none .score ≡ score
+  found : getD (before .best) pattern notNoted .score ≡ score
   unfolding notesIn
-  found = ap (λ (b : Best). b .score) (getD-table (bestIn m) patternCount pattern none below)
+  found = ap (λ (b : Best). b .score) (getD-table (bestIn m) patternCount pattern notNoted below)
 
   -- where the pattern is not noted yet, the order has room for it
   pub free : score ≡ 0 → count < patternCount
   free e =
-      let more = length-keep-set noted (before .best) pattern (record { score = 1; masks = [] }) none (omega (arith, best-size m count r, below)) in
+      let more = length-keep-set noted (before .best) pattern (record { score = 1; masks = [] }) notNoted (omega (arith, best-size m count r, below)) in
       omega (
         arith,
         counted m count r,
@@ -205,19 +200,18 @@ module _ (m : List ℕ) (count : ℕ) (r : Room m count) (c : Chosen) (h : InBou
         rw (found ∙ e) at more,
       )
 
-  done : (after : List ℕ) (count′ : ℕ) → notesIn after count′ ≡ note before (outcomeIn c) → drop noteRoom after ≡ drop noteRoom m
-      → length after ≡ length m → Noting (outcomeIn c ∷ []) m count after count′
-  done after count′ notes rest size = record {
+  done : (after : List ℕ) (count′ : ℕ) → notesIn after count′ ≡ note before (outcomeIn c) → NotesFree m after → Noting (outcomeIn c ∷ []) m count after count′
+  done after count′ notes only = record {
     notes = notes;
-    rest = rest;
+    only = only;
     room = record {
-      room = omega (arith, r .room);
+      room = omega (arith, r .room, only .long);
       tallied = subst Tallied (sym notes) (tally-note before (outcomeIn c) (omega (arith, best-size m count r, below)) (r .tallied));
     };
   }
 
   pub noting-less : c .gain < score → Noting (outcomeIn c ∷ []) m count m count
-  noting-less lt = done m count (sym (note-less before (outcomeIn c) score found lt)) refl refl
+  noting-less lt = done m count (sym (note-less before (outcomeIn c) score found lt)) only-refl
 
   abbrev withOutcome : List ℕ
   withOutcome = overwrite m (pattern * bestBytes) (bytes scoreBytes (c .gain + 1) ++ c .masks)
@@ -227,20 +221,18 @@ module _ (m : List ℕ) (count : ℕ) (r : Room m count) (c : Chosen) (h : InBou
       done withOutcome count
       (notes-best m count (r .room) (few m count r) pattern (c .gain + 1) (c .masks) below small (h .masks)
       ∙ sym (note-better before (outcomeIn c) score found le (omega arith)))
-      (rest-best m count (r .room) (few m count r) pattern (c .gain + 1) (c .masks) below small (h .masks))
-      (length-best m count (r .room) (few m count r) pattern (c .gain + 1) (c .masks) below small (h .masks))
+      (free-best m count (r .room) (few m count r) pattern (c .gain + 1) (c .masks) below small (h .masks))
 
   pub noting-first : score ≡ 0 → Noting (outcomeIn c ∷ []) m count (overwrite withOutcome (orderAt + count * patternBytes) (bytes patternBytes pattern)) (count + 1)
   noting-first e =
-      let size = length-best m count (r .room) (few m count r) pattern (c .gain + 1) (c .masks) below small (h .masks) in
-      let room : noteRoom ≤ length withOutcome = omega (arith, size, r .room) in
+      let best = free-best m count (r .room) (few m count r) pattern (c .gain + 1) (c .masks) below small (h .masks) in
+      let room : noteRoom ≤ length withOutcome = omega (arith, best .long, r .room) in
       let low : pattern < 256 ^ patternBytes = omega (arith, below) in
       done (overwrite withOutcome (orderAt + count * patternBytes) (bytes patternBytes pattern)) (count + 1)
       (notes-order withOutcome count room (few m count r) pattern low (free e)
       ∙ ap (λ (n : Notes). record { best = n .best; order = n .order ++ (pattern ∷ []) }) (notes-best m count (r .room) (few m count r) pattern (c .gain + 1) (c .masks) below small (h .masks))
       ∙ sym (note-first before (outcomeIn c) score found e))
-      (rest-order withOutcome count room (few m count r) pattern low (free e) ∙ rest-best m count (r .room) (few m count r) pattern (c .gain + 1) (c .masks) below small (h .masks))
-      (overwrite-length withOutcome (orderAt + count * patternBytes) (bytes patternBytes pattern) (omega (arith, bytes-length patternBytes pattern, free e)) ∙ size)
+      (only-trans best (free-order withOutcome count room (few m count r) pattern low (free e)))
 
 -- ---- notes that were cleared
 
@@ -277,7 +269,7 @@ pub notes-cleared : (m : List ℕ) → noteRoom ≤ length m → Cleared m (over
 unfolding notesIn number nothingNoted
 notes-cleared m room = record {
   notes = notes;
-  rest = rest-kept m 0 zeros room (omega (arith, length-zeros));
+  only = notes-free m 0 zeros room (omega (arith, length-zeros));
   room = record {
     room = omega (arith, overwrite-length m 0 zeros (omega (arith, length-zeros)));
     tallied = subst Tallied (sym notes) (record { tally = refl });
@@ -298,6 +290,6 @@ notes-cleared m room = record {
 -- ---- reading notes
 
 module _ (m : List ℕ) (count : ℕ) where
-  pub best-at : (p : ℕ) → p < patternCount → bestIn m p ≡ getD (notesIn m count .best) p none
+  pub best-at : (p : ℕ) → p < patternCount → bestIn m p ≡ getD (notesIn m count .best) p notNoted
   unfolding notesIn
-  best-at p h = sym (getD-table (bestIn m) patternCount p none h)
+  best-at p h = sym (getD-table (bestIn m) patternCount p notNoted h)

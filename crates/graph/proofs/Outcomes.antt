@@ -22,11 +22,11 @@ use Rattle.policy.specs.View.{Tasks, TasksInRange}
 use Rattle.policy.proofs.Cells.{window-low}
 use Rattle.theory.proofs.Distinct.{Distinct, distinct-snoc}
 use Rattle.theory.proofs.Edges.{mem-choices}
-use Rattle.graph.specs.Outcomes.{patternCount, Outcome, outcomeOf, outcomes, Best, Notes, none, note, notedOf, notNoted, nothingNoted}
+use Rattle.graph.specs.Outcomes.{patternCount, Outcome, outcomeOf, outcomes, Best, Notes, notNoted, note, notedOf, nothingNoted}
 use Rattle.graph.proofs.Notes.{bestOf, note-less, note-better, note-first}
 
 abbrev pub bestAt : Notes → ℕ → Best
-bestAt n p = getD (n .best) p none
+bestAt n p = getD (n .best) p notNoted
 
 abbrev pub scoreAt : Notes → ℕ → ℕ
 scoreAt n p = bestAt n p .score
@@ -64,8 +64,8 @@ module _ (n : Notes) (o : Outcome) where
     where
       by : Case n o → bestAt (note n o) p ≡ bestAt n p
       by (less h e) = rw e
-      by (better h q e) = rw e (getD-set-other (n .best) (o .pattern) p (bestOf o) none ne)
-      by (first z e) = rw e (getD-set-other (n .best) (o .pattern) p (bestOf o) none ne)
+      by (better h q e) = rw e (getD-set-other (n .best) (o .pattern) p (bestOf o) notNoted ne)
+      by (first z e) = rw e (getD-set-other (n .best) (o .pattern) p (bestOf o) notNoted ne)
 
   -- the best of its pattern is as it was, where that is better, or the outcome
   note-same : o .pattern < length (n .best)
@@ -76,8 +76,8 @@ module _ (n : Notes) (o : Outcome) where
       by : Case n o → ((o .gain < scoreAt n (o .pattern)) × (bestAt (note n o) (o .pattern) ≡ bestAt n (o .pattern)))
           ⊎ ((scoreAt n (o .pattern) ≤ o .gain) × (bestAt (note n o) (o .pattern) ≡ bestOf o))
       by (less h e) = inl (h, rw e)
-      by (better h p e) = inr (h, rw e (getD-set-same (n .best) (o .pattern) (bestOf o) none below))
-      by (first z e) = inr (omega arith, rw e (getD-set-same (n .best) (o .pattern) (bestOf o) none below))
+      by (better h p e) = inr (h, rw e (getD-set-same (n .best) (o .pattern) (bestOf o) notNoted below))
+      by (first z e) = inr (omega arith, rw e (getD-set-same (n .best) (o .pattern) (bestOf o) notNoted below))
 
   module _ (below : o .pattern < length (n .best)) where
     note-least : o .gain + 1 ≤ scoreAt (note n o) (o .pattern)
@@ -247,9 +247,9 @@ unfolding nothingNoted
 nothing-score p = by (decLt p patternCount)
   where
     by : Dec (p < patternCount) → scoreAt nothingNoted p ≡ 0
-    by (yes h) = ap (λ (b : Best). b .score) (getD-replicate patternCount p notNoted none h)
+    by (yes h) = ap (λ (b : Best). b .score) (getD-replicate patternCount p notNoted notNoted h)
     by (no h) =
-        ap (λ (b : Best). b .score) (List·getD-eq-default (replicate patternCount notNoted) none {n = p} (omega (arith, length-replicate patternCount notNoted)))
+        ap (λ (b : Best). b .score) (List·getD-eq-default (replicate patternCount notNoted) notNoted {n = p} (omega (arith, length-replicate patternCount notNoted)))
 
 no-order : nothingNoted .order ≡ []
 unfolding nothingNoted

@@ -29,7 +29,7 @@ use Rattle.policy.specs.View.{Tasks}
 use Rattle.theory.proofs.Bits.{Apart, and-apart, zero-no-bit}
 use Rattle.theory.proofs.Edges.{MaskOf, Picked, mem-masksOf, mem-choices}
 use Rattle.model.proofs.Tests.{same-numbers}
-use Rattle.graph.specs.Outcomes.{chosenWith, tasksIn, Released}
+use Rattle.graph.specs.Outcomes.{chosenWith, tasksReleased, Released}
 use Rattle.graph.specs.Choice.{Led, findChoice, ledBy, choiceOf, fitsTask, allZero, choiceFrom, nextChoice}
 use Rattle.graph.proofs.Choices.{take-zeros}
 use Rattle.graph.specs.declared.Release.{Release}
@@ -256,7 +256,7 @@ module _ (ts : Tasks) (l : ℕ) (c : Chosen) (given : List ℕ) (none-yet : c .g
 
 module _ (r : Release) (c : Chosen) (given : List ℕ) (h : Released r) where
   abbrev task : Task
-  task = getD (tasksIn r) (c .task) noTask
+  task = getD (tasksReleased r) (c .task) noTask
 
   abbrev mask : ℕ
   mask = getD given (c .task) 0
@@ -268,8 +268,8 @@ module _ (r : Release) (c : Chosen) (given : List ℕ) (h : Released r) where
   last : (b : Bool) → c .task ≡ r .count → allZero (drop (c .task) given) ≡ b → nextChoice r c given ≡ cond b (some found) none
   unfolding nextChoice
   last b e z =
-      let all : length (tasksIn r) ≤ c .task = omega (arith, h .size) in
-      rw (drop-of-length-le (tasksIn r) all, z)
+      let all : length (tasksReleased r) ≤ c .task = omega (arith, h .size) in
+      rw (drop-of-length-le (tasksReleased r) all, z)
 
   pub next-found : c .task ≡ r .count → allZero (drop (c .task) given) ≡ true → nextChoice r c given ≡ some found
   next-found e z = last true e z
@@ -287,9 +287,9 @@ module _ (r : Release) (c : Chosen) (given : List ℕ) (h : Released r) where
         let s : suc (c .task) ≡ c .task + 1 = omega arith in
         let half : r .label / 2 ^ c .task / 2 ≡ r .label / 2 ^ (c .task + 1) = shr-shr (r .label) (c .task) 1 in
         ap₂ (λ ts g. choiceFrom ts (r .label / 2 ^ c .task) c g)
-        (drop-cons (tasksIn r) (c .task) noTask (omega (arith, h .size)) ∙ ap (λ k. task ∷ drop k (tasksIn r)) s)
+        (drop-cons (tasksReleased r) (c .task) noTask (omega (arith, h .size)) ∙ ap (λ k. task ∷ drop k (tasksReleased r)) s)
         (drop-cons given (c .task) 0 (omega arith) ∙ ap (λ k. mask ∷ drop k given) s)
-        ∙ ap₂ (λ x l. cond x (choiceFrom (drop (c .task + 1) (tasksIn r)) l (chosenWith task c mask) (drop (c .task + 1) given)) none) e half
+        ∙ ap₂ (λ x l. cond x (choiceFrom (drop (c .task + 1) (tasksReleased r)) l (chosenWith task c mask) (drop (c .task + 1) given)) none) e half
 
     pub next-fits : fitsTask task (eqb (r .label / 2 ^ c .task % 2) 1) (c .pattern) mask ≡ true → nextChoice r c given ≡ nextChoice r (chosenWith task c mask) given
     unfolding fitting
@@ -301,11 +301,11 @@ module _ (r : Release) (c : Chosen) (given : List ℕ) (h : Released r) where
 
 -- no mask yet
 pub choice-start : (r : Release) (taken : ℕ) (given : List ℕ) → Released r → length given ≡ maxTasks
-    → nextChoice r (record { task = 0; pattern = taken; gain = 0; masks = given }) given ≡ choiceOf (tasksIn r) (r .label) taken given
+    → nextChoice r (record { task = 0; pattern = taken; gain = 0; masks = given }) given ≡ choiceOf (tasksReleased r) (r .label) taken given
 unfolding nextChoice
 choice-start r taken given h size =
-    ap (λ l. choiceFrom (tasksIn r) l c given) (div-one (r .label))
-    ∙ sym (choice-tested (tasksIn r) (r .label) c given refl size (h .tasks .count))
+    ap (λ l. choiceFrom (tasksReleased r) l c given) (div-one (r .label))
+    ∙ sym (choice-tested (tasksReleased r) (r .label) c given refl size (h .tasks .count))
   where
     c : Chosen
     c = record { task = 0; pattern = taken; gain = 0; masks = given }

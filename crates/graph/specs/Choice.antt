@@ -12,7 +12,7 @@ use Rattle.model.specs.Limits.{maxWindow}
 use Rattle.model.specs.Lists.{sameNumbers, ones}
 use Rattle.model.specs.Plan.{Task}
 use Rattle.policy.specs.View.{Tasks}
-use Rattle.graph.specs.Outcomes.{chosenWith, tasksIn}
+use Rattle.graph.specs.Outcomes.{chosenWith, tasksReleased}
 use Rattle.graph.specs.declared.Release.{Release}
 use Rattle.graph.specs.declared.Chosen.{Chosen}
 use Rattle.graph.specs.declared.Lead.{Lead}
@@ -41,9 +41,9 @@ ledOf found.None = none
 ledOf (found.Some p g) = some (record { pattern = p; gain = g })
 
 -- the gain, 0 where there is no choice
-abbrev pub gainIn : Lead → ℕ
-gainIn found.None = 0
-gainIn (found.Some p g) = g
+abbrev pub leadGain : Lead → ℕ
+leadGain found.None = 0
+leadGain (found.Some p g) = g
 
 -- ---- by a test of each mask
 
@@ -64,4 +64,4 @@ choiceFrom (t ∷ ts) l c (m ∷ ms) = let later = choiceFrom ts (l / 2) (chosen
 
 -- the same from the next task of a release on
 unfoldable pub nextChoice : Release → Chosen → List ℕ → Option Led
-nextChoice r c given = choiceFrom (drop (c .task) (tasksIn r)) (r .label / 2 ^ c .task) c (drop (c .task) given)
+nextChoice r c given = choiceFrom (drop (c .task) (tasksReleased r)) (r .label / 2 ^ c .task) c (drop (c .task) given)

@@ -2,11 +2,11 @@
 use mathlib.Core.Path.{_≡_}
 use mathlib.Core.List.{List, map}
 use Prim.Native.Nat.{ℕ, _<_, _≤_}
-use lib.ListN.{length, drop}
+use lib.ListN.{length}
 use Rattle.model.specs.Lists.{upFrom}
 use Rattle.policy.specs.View.{tasksIn, Slotted}
 use Rattle.policy.specs.declared.Rules.{Rules}
-use Rattle.graph.specs.Outcomes.{patternCount, noteRoom, patternIn, notesIn, notedOf, nothingNoted}
+use Rattle.graph.specs.Outcomes.{patternCount, noteRoom, NotesFree, patternIn, notesIn, notedOf, nothingNoted}
 use Rattle.graph.specs.declared.Node.{Node}
 use Rattle.graph.specs.declared.Noted.{Noted}
 
@@ -25,4 +25,4 @@ pub record Reaches (r : Rules) (u : Node) (l : ℕ) (before after : List ℕ) (d
   pub slot : Slotted r (u .cells) l (d .done)
   pub notes : notesIn after (d .count) ≡ notedOf (tasksIn r) l (u .taken) nothingNoted
   pub readable : Readable after (d .count)
-  pub rest : drop noteRoom after ≡ drop noteRoom before
+  pub only : NotesFree before after

@@ -6,7 +6,7 @@ use Prim.Native.Nat.{ℕ, _+_, _-_, _*_, _/_, _^_, _<_, _≤_}
 use lib.Bits.{bitAnd, bitOr}
 use lib.Dec.{leb, ltb, eqb}
 use lib.ListN.{length, getD, set, drop, replicate}
-use Rattle.model.specs.Bytes.{number, part}
+use Rattle.model.specs.Bytes.{number, part, Only}
 use Rattle.model.specs.Check.{padded}
 use Rattle.model.specs.Graph.{choices, joined, worth}
 use Rattle.model.specs.Limits.{maxTasks, maxWindow, maxValue}
@@ -48,13 +48,14 @@ pub record Notes : Type 0 where
   pub best : List Best
   pub order : List ℕ
 
-abbrev pub none : Best
-none = record { score = 0; masks = [] }
+-- nothing is noted
+abbrev pub notNoted : Best
+notNoted = record { score = 0; masks = replicate maxTasks 0 }
 
 -- the greatest gain is noted, and the first outcome of those that have it
 unfoldable pub note : Notes → Outcome → Notes
 note n o =
-    let b = getD (n .best) (o .pattern) none in
+    let b = getD (n .best) (o .pattern) notNoted in
     record {
       best = cond (leb (b .score) (o .gain)) (set (n .best) (o .pattern) (record { score = o .gain + 1; masks = o .masks })) (n .best);
       order = cond (eqb (b .score) 0) (n .order ++ (o .pattern ∷ [])) (n .order);
@@ -109,33 +110,35 @@ pub record Room (memory : List ℕ) (count : ℕ) : Type 0 where
   pub room : noteRoom ≤ length memory
   pub tallied : Tallied (notesIn memory count)
 
+-- what the notes hold is free, and every other byte is as it was
+abbrev pub NotesFree : List ℕ → List ℕ → Type 0
+NotesFree before after = Only 0 noteRoom before after
+
 -- the outcomes os are noted, and every byte behind the notes is as it was
 pub record Noting (os : List Outcome) (before : List ℕ) (count : ℕ) (after : List ℕ) (count′ : ℕ) : Type 0 where
   pub notes : notesIn after count′ ≡ foldl note (notesIn before count) os
-  pub rest : drop noteRoom after ≡ drop noteRoom before
+  pub only : NotesFree before after
   pub room : Room after count′
 
--- nothing is noted, and every byte behind the notes is as it was
-abbrev pub notNoted : Best
-notNoted = record { score = 0; masks = replicate maxTasks 0 }
-
+-- nothing is noted for any pattern
 unfoldable pub nothingNoted : Notes
 nothingNoted = record { best = replicate patternCount notNoted; order = [] }
 
+-- nothing is noted, and every byte behind the notes is as it was
 pub record Cleared (before after : List ℕ) : Type 0 where
   pub notes : notesIn after 0 ≡ nothingNoted
-  pub rest : drop noteRoom after ≡ drop noteRoom before
+  pub only : NotesFree before after
   pub room : Room after 0
 
 -- ---- the recursion over tasks and masks
 
 -- the tasks of a release
-abbrev pub tasksIn : Release → Tasks
-tasksIn r = tasksOf (r .tasks) (r .count)
+abbrev pub tasksReleased : Release → Tasks
+tasksReleased r = tasksOf (r .tasks) (r .count)
 
 pub record Released (r : Release) : Type 0 where
-  pub tasks : TasksInRange (tasksIn r)
-  pub size : length (tasksIn r) ≡ r .count
+  pub tasks : TasksInRange (tasksReleased r)
+  pub size : length (tasksReleased r) ≡ r .count
 
 -- what masks for the first tasks leave
 pub record InBounds (c : Chosen) : Type 0 where
@@ -183,8 +186,8 @@ clearIn taken at end = keep (λ m. eqb (bitAnd m taken) 0) (part maskTable at (e
 
 -- what is noted for the tasks from the next on, and for masks of the next
 abbrev pub nextOutcomes : Release → Chosen → List Outcome
-nextOutcomes r c = outcomesFrom (drop (c .task) (tasksIn r)) (r .label / 2 ^ c .task) c
+nextOutcomes r c = outcomesFrom (drop (c .task) (tasksReleased r)) (r .label / 2 ^ c .task) c
 
 abbrev pub maskOutcomes : Release → Chosen → ℕ → ℕ → List Outcome
 maskOutcomes r c at end =
-    outcomesWith (getD (tasksIn r) (c .task) noTask) (drop (c .task + 1) (tasksIn r)) (r .label / 2 ^ (c .task + 1)) c (clearIn (c .pattern) at end)
+    outcomesWith (getD (tasksReleased r) (c .task) noTask) (drop (c .task + 1) (tasksReleased r)) (r .label / 2 ^ (c .task + 1)) c (clearIn (c .pattern) at end)

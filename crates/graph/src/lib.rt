@@ -12,11 +12,10 @@ ghost use Rattle.model.specs.Bytes.{bytes, overwrite};
 ghost use Rattle.model.specs.Limits.{maxTasks, maxWindow, maxValue, maxStates};
 ghost use Rattle.model.specs.Masks.{maskCount, maskTable};
 ghost use Rattle.model.specs.Slot.{noTask};
-ghost use Rattle.plan.specs.View.{taskOf, StatesFit};
-ghost use Rattle.policy.specs.View as policy-view;
-ghost use Rattle.policy.specs.View.{cellCount, Cells, Ruled};
-ghost use Rattle.graph.specs.Outcomes.{outcomes, scoreBytes, bestBytes, noteRoom, patternCount, none, patternIn, notesIn, Room, Noting, Cleared, tasksIn, Released, InBounds, chosenWith, outcomeIn, nextOutcomes, maskOutcomes};
-ghost use Rattle.graph.specs.Choice.{choiceOf, ledOf, gainIn, fitsTask, allZero, nextChoice};
+ghost use Rattle.plan.specs.View.{taskView, StatesFit};
+ghost use Rattle.policy.specs.View.{cellCount, Cells, tasksIn, Ruled};
+ghost use Rattle.graph.specs.Outcomes.{outcomes, scoreBytes, bestBytes, noteRoom, patternCount, notNoted, patternIn, notesIn, Room, Noting, Cleared, tasksReleased, Released, InBounds, chosenWith, outcomeIn, nextOutcomes, maskOutcomes};
+ghost use Rattle.graph.specs.Choice.{choiceOf, ledOf, leadGain, fitsTask, allZero, nextChoice};
 ghost use Rattle.graph.specs.Edge.{noEdge, Stepped};
 ghost use Rattle.graph.specs.Label.{Readable, Reaches};
 ghost use Rattle.graph.specs.View.{Starts};
@@ -102,7 +101,7 @@ fn worth(task: Task, m: u8) -> u32
 // A mask for the next task joins.
 fn with_mask(chosen: Chosen, task: Task, m: u8) -> Chosen
     requires { ⌜ InBounds chosen × (chosen .task < maxTasks) × (m < maskCount) ⌝ }
-    ensures { λ r. ⌜ (r ≡ chosenWith (taskOf task) chosen m) × InBounds r ⌝ }
+    ensures { λ r. ⌜ (r ≡ chosenWith (taskView task) chosen m) × InBounds r ⌝ }
 {
     let i = chosen.task;
     let mut masks = chosen.masks;
@@ -149,7 +148,7 @@ fn note(memory: &mut [u8], count: usize, chosen: Chosen) -> usize
 
 fn task_at(release: Release, i: usize) -> Task
     requires { ⌜ Released release × (i < release .count) ⌝ }
-    ensures { λ r. ⌜ taskOf r ≡ getD (tasksIn release) i noTask ⌝ }
+    ensures { λ r. ⌜ taskView r ≡ getD (tasksReleased release) i noTask ⌝ }
 {
     let tasks = release.tasks;
     tasks[i]
@@ -232,7 +231,7 @@ fn clear_notes(memory: &mut [u8])
 // The score noted for a pattern.
 pub fn best_score(memory: &[u8], pattern: usize) -> u32
     requires { ⌜ (noteRoom ≤ length (now memory)) × (pattern < patternCount) ⌝ }
-    ensures { λ r. ⌜ ((count : ℕ) → r ≡ getD (notesIn (now (memory .entry)) count .best) pattern none .score) ⌝ }
+    ensures { λ r. ⌜ ((count : ℕ) → r ≡ getD (notesIn (now (memory .entry)) count .best) pattern notNoted .score) ⌝ }
 {
     words::read_u32(memory, pattern * BEST_BYTES)
 }
@@ -240,7 +239,7 @@ pub fn best_score(memory: &[u8], pattern: usize) -> u32
 // The masks noted for a pattern.
 pub fn best_masks(memory: &[u8], pattern: usize) -> [u8; MAX_TASKS]
     requires { ⌜ (noteRoom ≤ length (now memory)) × (pattern < patternCount) ⌝ }
-    ensures { λ r. ⌜ ((count : ℕ) → r ≡ getD (notesIn (now (memory .entry)) count .best) pattern none .masks) ⌝ }
+    ensures { λ r. ⌜ ((count : ℕ) → r ≡ getD (notesIn (now (memory .entry)) count .best) pattern notNoted .masks) ⌝ }
 {
     let mut masks = [0u8; MAX_TASKS];
     words::copy(
@@ -264,7 +263,7 @@ pub fn noted_pattern(memory: &[u8], count: usize, k: usize) -> u8
 // Notes the outcomes of a label's choices from a pattern of taken slots; so many patterns are noted.
 fn note_choices(release: Release, taken: u8, memory: &mut [u8], count: usize) -> usize
     requires { ⌜ Released release × (taken < maskCount) × Room (now memory) count ⌝ }
-    ensures { λ r. ⌜ Noting (outcomes (tasksIn release) (release .label) taken) (now (memory .entry)) count (now (memory .exit)) r ⌝ }
+    ensures { λ r. ⌜ Noting (outcomes (tasksReleased release) (release .label) taken) (now (memory .entry)) count (now (memory .exit)) r ⌝ }
 {
     let masks = [0u8; MAX_TASKS];
     let chosen = Chosen {
@@ -285,7 +284,7 @@ pub struct Noted {
 
 // Notes where the label's choices lead from a node, beside the policy's slot.
 pub fn reach(rules: Rules, node: Node, label: u8, notes: &mut [u8]) -> Noted
-    requires { ⌜ Ruled rules × Cells (policy-view.tasksIn rules) cellCount (node .cells) × (noteRoom ≤ length (now notes)) ⌝ }
+    requires { ⌜ Ruled rules × Cells (tasksIn rules) cellCount (node .cells) × (noteRoom ≤ length (now notes)) ⌝ }
     ensures { λ r. ⌜ Reaches rules node label (now (notes .entry)) (now (notes .exit)) r ⌝ }
 {
     let cells = node.cells;
@@ -311,7 +310,7 @@ pub enum Lead {
 // window, clear of the pattern.
 fn fits(task: Task, released: bool, pattern: u8, m: u8) -> bool
     requires { ⌜ task .window ≤ maxWindow ⌝ }
-    ensures { λ r. ⌜ r ≡ fitsTask (taskOf task) released pattern m ⌝ }
+    ensures { λ r. ⌜ r ≡ fitsTask (taskView task) released pattern m ⌝ }
 {
     if m == 0 {
         return true;
@@ -346,7 +345,7 @@ fn are_zero(masks: [u8; MAX_TASKS], from: usize) -> bool
 // Where the given masks for the tasks from the next on lead.
 fn choice_from(release: Release, chosen: Chosen, masks: [u8; MAX_TASKS]) -> Lead
     requires { ⌜ Released release × InBounds chosen × (chosen .task ≤ release .count) × (length masks ≡ maxTasks) ⌝ }
-    ensures { λ r. ⌜ (ledOf r ≡ nextChoice release chosen masks) × (gainIn r ≤ maxTasks * maxValue) ⌝ }
+    ensures { λ r. ⌜ (ledOf r ≡ nextChoice release chosen masks) × (leadGain r ≤ maxTasks * maxValue) ⌝ }
 {
     let i = chosen.task;
     if i == release.count {
@@ -368,7 +367,7 @@ fn choice_from(release: Release, chosen: Chosen, masks: [u8; MAX_TASKS]) -> Lead
 // Where the label's choice with the given masks leads.
 fn choice(release: Release, taken: u8, masks: [u8; MAX_TASKS]) -> Lead
     requires { ⌜ Released release × (taken < maskCount) × (length masks ≡ maxTasks) ⌝ }
-    ensures { λ r. ⌜ (ledOf r ≡ choiceOf (tasksIn release) (release .label) taken masks) × (gainIn r ≤ maxTasks * maxValue) ⌝ }
+    ensures { λ r. ⌜ (ledOf r ≡ choiceOf (tasksReleased release) (release .label) taken masks) × (leadGain r ≤ maxTasks * maxValue) ⌝ }
 {
     let chosen = Chosen {
         task: 0,
@@ -382,7 +381,7 @@ fn choice(release: Release, taken: u8, masks: [u8; MAX_TASKS]) -> Lead
 // The same by the rules.
 fn choice_at(rules: Rules, taken: u8, label: u8, masks: [u8; MAX_TASKS]) -> Lead
     requires { ⌜ Ruled rules × (length masks ≡ maxTasks) ⌝ }
-    ensures { λ r. ⌜ (ledOf r ≡ choiceOf (policy-view.tasksIn rules) label taken masks) × (gainIn r ≤ maxTasks * maxValue) ⌝ }
+    ensures { λ r. ⌜ (ledOf r ≡ choiceOf (tasksIn rules) label taken masks) × (leadGain r ≤ maxTasks * maxValue) ⌝ }
 {
     let tasks = rules.tasks;
     let release = Release {
@@ -420,7 +419,7 @@ pub fn edge_by(
     label: u8,
     masks: [u8; MAX_TASKS],
 ) -> Edge
-    requires { ⌜ Ruled rules × Cells (policy-view.tasksIn rules) cellCount (node .cells) × StatesFit (now next) × (node .state < maxStates) × (length masks ≡ maxTasks) ⌝ }
+    requires { ⌜ Ruled rules × Cells (tasksIn rules) cellCount (node .cells) × StatesFit (now next) × (node .state < maxStates) × (length masks ≡ maxTasks) ⌝ }
     ensures { λ r. ⌜ Stepped (now (next .entry)) rules node label masks r ⌝ }
 {
     let entry = plan::next_state(next, node.state, label);

@@ -12,8 +12,8 @@ use Rattle.model.specs.Limits.{maxNodes}
 use Rattle.words.proofs.Memory.{overwrite-inside}
 use Rattle.store.proofs.Tables.{zero-entry}
 use Rattle.links.specs.Links.{linkBytes, linksAt, linksEnd, linkIn, noLink, startLink, Puts, Begins, linksSize}
-use Rattle.links.proofs.Frames.{only-trans}
-use Rattle.links.proofs.Written.{overwrite-only}
+use Rattle.words.proofs.Free.{only-trans}
+use Rattle.words.proofs.Free.{overwrite-only}
 
 module _ (m : List ℕ) (room : linksEnd ≤ length m) where
   abbrev zeros : List ℕ

@@ -14,8 +14,9 @@ use Rattle.theory.specs.Search.{above, Before, trail}
 use Rattle.theory.proofs.Upward.{above-next, before-none, before-more, upward-way, upward-short}
 use borrow.Author.Tests.{eq-eqb, ne-eqb}
 use Rattle.links.specs.declared.Taken.{Taken}
-use Rattle.links.proofs.Frames.{only-refl, only-trans}
-use Rattle.links.specs.Links.{stepsAt, linkIn, stepIn, stateIn, takenOf, Only, PutsStep, Climbs, Closes, stepsSize}
+use Rattle.words.proofs.Free.{only-refl, only-trans}
+use Rattle.model.specs.Bytes.{Only}
+use Rattle.links.specs.Links.{stepsAt, linkIn, takenIn, stateIn, takenOf, PutsStep, Climbs, Closes, stepsSize}
 
 -- ---- the way up
 
@@ -55,15 +56,15 @@ trail-first parent label (suc k) u = ap (λ ss. ss ++ (record { node = parent u;
 
 -- k steps from the place i on
 abbrev stepsFrom : List ℕ → ℕ → ℕ → List search.Taken
-stepsFrom m i k = map (λ x. takenOf (stepIn m x)) (upFrom i k)
+stepsFrom m i k = map (λ x. takenOf (takenIn m x)) (upFrom i k)
 
 -- a step that is written, and those after it
 steps-put : {i : ℕ} {s : Taken} {m m′ : List ℕ} → PutsStep i s m m′ → (k : ℕ) → i + k < maxSteps → stepsFrom m′ i (suc k) ≡ takenOf s ∷ stepsFrom m (suc i) k
 steps-put {i} {s} {m} {m′} p k h =
-    ap₂ (λ x xs. takenOf x ∷ xs) (p .steps i (omega arith) ∙ ap (λ b. cond b s (stepIn m i)) (eq-eqb i i refl))
-    (map-same (λ x. takenOf (stepIn m′ x)) (λ x. takenOf (stepIn m x)) (upFrom (suc i) k)
+    ap₂ (λ x xs. takenOf x ∷ xs) (p .steps i (omega arith) ∙ ap (λ b. cond b s (takenIn m i)) (eq-eqb i i refl))
+    (map-same (λ x. takenOf (takenIn m′ x)) (λ x. takenOf (takenIn m x)) (upFrom (suc i) k)
     (λ x e. let r = mem-of-upFrom (suc i) k e in
-    ap takenOf (p .steps x (omega (arith, r)) ∙ ap (λ b. cond b s (stepIn m x)) (ne-eqb x i (λ q. omega (arith, r, q))))))
+    ap takenOf (p .steps x (omega (arith, r)) ∙ ap (λ b. cond b s (takenIn m x)) (ne-eqb x i (λ q. omega (arith, r, q))))))
 
 -- the steps from `left` up to j are those down to u from the node `at`
 pub record Trailing (before : List ℕ) (u j : ℕ) (m : List ℕ) (at left : ℕ) : Type 0 where
@@ -80,7 +81,7 @@ module _ {before : List ℕ} {u j : ℕ} where
         most = omega arith;
         place = ap (λ (k : ℕ). above up k u) (sym none);
         steps = ap (stepsFrom before j) none ∙ ap (λ (k : ℕ). trail up (stateIn before .label) k u) (sym none);
-        only = only-refl stepsAt stepsSize before;
+        only = only-refl;
       }
 
   pub trailing-next : {m m′ : List ℕ} {at left : ℕ} → Trailing before u j m at left → j < maxSteps → 0 < left →
@@ -110,14 +111,14 @@ module _ {before : List ℕ} {u j : ℕ} where
       let zero-left : left ≡ 0 = omega arith in
       let all : j - left ≡ j = omega arith in
       let last : Taken = record { node = u; label = label } in
-      let taken : ℕ → search.Taken = λ x. takenOf (stepIn m′ x) in
-      let same : stepsFrom m′ 0 j ≡ stepsFrom m 0 j = map-same taken (λ x. takenOf (stepIn m x)) (upFrom 0 j) (λ x e.
+      let taken : ℕ → search.Taken = λ x. takenOf (takenIn m′ x) in
+      let same : stepsFrom m′ 0 j ≡ stepsFrom m 0 j = map-same taken (λ x. takenOf (takenIn m x)) (upFrom 0 j) (λ x e.
       let r = mem-of-upFrom 0 j e in
-      ap takenOf (p .steps x (omega (arith, r)) ∙ ap (λ b. cond b last (stepIn m x)) (ne-eqb x j (λ q. omega (arith, r, q))))) in record {
+      ap takenOf (p .steps x (omega (arith, r)) ∙ ap (λ b. cond b last (takenIn m x)) (ne-eqb x j (λ q. omega (arith, r, q))))) in record {
         steps =
             ap (map taken) (upFrom-append 0 j 1) ∙ map-append taken (upFrom 0 j) (upFrom (0 + j) 1)
             ∙ ap₂ (λ xs (x : Taken). xs ++ (takenOf x ∷ []))
             (same ∙ sym (ap₂ (stepsFrom m) zero-left all) ∙ t .steps ∙ ap (λ (k : ℕ). trail (stateIn before .parent) (stateIn before .label) k u) all)
-            (ap (stepIn m′) (zero-add j) ∙ p .steps j h ∙ ap (λ b. cond b last (stepIn m j)) (eq-eqb j j refl));
+            (ap (takenIn m′) (zero-add j) ∙ p .steps j h ∙ ap (λ b. cond b last (takenIn m j)) (eq-eqb j j refl));
         only = only-trans (t .only) (p .only);
       }

@@ -1,4 +1,3 @@
 pub mod Written
-pub mod Frames
 pub mod Climb
 pub mod Cleared

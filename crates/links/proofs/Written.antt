@@ -12,33 +12,15 @@ use lib.Dec.{eqb}
 use lib.ListN.{length, getD, set, take, drop, length-append}
 use lib.Seq.{take-at, append-snoc, drop-append-add, getD-append-add, ext-getD, getD-take, getD-drop}
 use lib.Signed.{mag}
-use Rattle.model.specs.Bytes.{number, bytes, signed, complement, part, overwrite}
+use Rattle.model.specs.Bytes.{number, bytes, signed, complement, part, overwrite, Only}
 use Rattle.model.specs.Limits.{maxNodes, maxSteps}
 use Rattle.words.proofs.Complement.{complement-lt, signed-complement}
-use Rattle.words.proofs.Memory.{overwrite-one, overwrite-length, overwrite-inside, overwrite-outside, overwrite-frame, overwrite-join, overwrite-more, part-length}
+use Rattle.words.proofs.Free.{only-part, overwrite-only, overwrite-within}
+use Rattle.words.proofs.Memory.{overwrite-one, overwrite-length, overwrite-inside, overwrite-outside, overwrite-frame, overwrite-join, overwrite-more, part-skip, getD-skip}
 use Rattle.words.proofs.Numbers.{bytes-length, number-bytes}
-use Rattle.links.specs.Links.{linkBytes, stepBytes, linksAt, stepsAt, linksEnd, linkAt, linkIn, stepAt, stepIn, marked, Only, Puts, PutsStep, linksSize, stepsSize}
+use Rattle.links.specs.Links.{linkBytes, stepBytes, linksAt, stepsAt, linksEnd, linkPlace, linkIn, stepPlace, takenIn, marked, Puts, PutsStep, linksSize, stepsSize}
 use Rattle.links.specs.declared.Link.{Link}
 use Rattle.links.specs.declared.Taken.{Taken}
-
-module _ (m : List ℕ) (at : ℕ) (bs : List ℕ) (fits : at + length bs ≤ length m) where
-  -- a part of what was written
-  overwrite-within : (i k : ℕ) → i + k ≤ length bs → part (overwrite m at bs) (at + i) k ≡ part bs i k
-  overwrite-within i k inside =
-      let long = overwrite-length m at bs fits in
-      let left = part-length (overwrite m at bs) (at + i) k (omega arith) in
-      let right = part-length bs i k inside in
-      ext-getD 0 (part (overwrite m at bs) (at + i) k) (part bs i k) (left ∙ sym right)
-      (λ j below. let h : j < k = omega arith in
-      let e : at + i + j ≡ at + (i + j) = omega arith in
-      rw (getD-take, getD-take, getD-drop, getD-drop, e) (overwrite-inside m at bs fits (i + j) (omega arith)))
-
-  -- a write within k bytes changes no other
-  pub overwrite-only : (at′ k : ℕ) → at′ ≤ at → at + length bs ≤ at′ + k → Only at′ k m (overwrite m at bs)
-  overwrite-only at′ k low high = record {
-    long = overwrite-length m at bs fits;
-    bytes = λ i apart. overwrite-outside m at bs fits i (⊎-map (λ h. omega arith) (λ h. omega arith) apart);
-  }
 
 -- a table with another entry at v, where it stands there and at no other place
 put-one : {A : Type 0} (after before : ℕ → A) (v : ℕ) (a : A) → after v ≡ a → (x : ℕ) → ((x < v) ⊎ (v < x) → after x ≡ before x) →
@@ -49,15 +31,6 @@ put-one after before v a same x other = by (ℕ-discrete x v) (decLt x v)
     by (yes p) d = ap after p ∙ same ∙ ap (λ b. cond b a (before x)) (sym (eq-eqb x v p))
     by (no q) (yes h) = other (inl h) ∙ ap (λ b. cond b a (before x)) (sym (ne-eqb x v q))
     by (no q) (no h) = other (inr (omega arith)) ∙ ap (λ b. cond b a (before x)) (sym (ne-eqb x v q))
-
--- ---- pieces of bytes
-
--- the part after the first piece
-part-skip : (xs ys : List ℕ) (n i k : ℕ) → length xs ≡ n → part (xs ++ ys) (n + i) k ≡ part ys i k
-part-skip xs ys n i k e = ap (take k) (ap (λ (j : ℕ). drop (j + i) (xs ++ ys)) (sym e) ∙ drop-append-add xs ys i)
-
-getD-skip : (xs ys : List ℕ) (n i : ℕ) → length xs ≡ n → getD (xs ++ ys) (n + i) 0 ≡ getD ys i 0
-getD-skip xs ys n i e = ap (λ (j : ℕ). getD (xs ++ ys) (j + i) 0) (sym e) ∙ getD-append-add xs ys i 0
 
 -- ---- a link
 
@@ -98,39 +71,39 @@ module _ (l : Link) (signs : mag (l .distance) < 2 ^ 63) (low : l .parent < 256 
 
   module _ (m : List ℕ) (v : ℕ) (room : linksEnd ≤ length m) (below : v < maxNodes) where
     abbrev after : List ℕ
-    after = overwrite m (linkAt v) (bytesOf l)
+    after = overwrite m (linkPlace v) (bytesOf l)
 
-    fits : linkAt v + length (bytesOf l) ≤ length m
+    fits : linkPlace v + length (bytesOf l) ≤ length m
     fits = omega (arith, bytesOf-length l)
 
     same : linkIn after v ≡ l
     same =
         let long = bytesOf-length l in
-        let at-10 : linkAt v + 10 ≡ linkAt v + (8 + (2 + 0)) = omega arith in
+        let at-10 : linkPlace v + 10 ≡ linkPlace v + (8 + (2 + 0)) = omega arith in
         λ i. record {
           distance =
-              (ap (λ (k : ℕ). signed (number (part after k 8))) (sym (add-zero (linkAt v)))
-              ∙ ap (λ bs. signed (number bs)) (overwrite-within m (linkAt v) (bytesOf l) fits 0 8 (omega arith)) ∙ distance-back) i;
-          parent = (ap number (overwrite-within m (linkAt v) (bytesOf l) fits 8 2 (omega arith)) ∙ parent-back) i;
-          label = (overwrite-inside m (linkAt v) (bytesOf l) fits 10 (omega arith) ∙ tail-back 0) i;
-          mark = (overwrite-inside m (linkAt v) (bytesOf l) fits 11 (omega arith) ∙ tail-back 1) i;
+              (ap (λ (k : ℕ). signed (number (part after k 8))) (sym (add-zero (linkPlace v)))
+              ∙ ap (λ bs. signed (number bs)) (overwrite-within m (linkPlace v) (bytesOf l) fits 0 8 (omega arith)) ∙ distance-back) i;
+          parent = (ap number (overwrite-within m (linkPlace v) (bytesOf l) fits 8 2 (omega arith)) ∙ parent-back) i;
+          label = (overwrite-inside m (linkPlace v) (bytesOf l) fits 10 (omega arith) ∙ tail-back 0) i;
+          mark = (overwrite-inside m (linkPlace v) (bytesOf l) fits 11 (omega arith) ∙ tail-back 1) i;
         }
 
-    other : (x : ℕ) → (linkAt x + linkBytes ≤ linkAt v) ⊎ (linkAt v + linkBytes ≤ linkAt x) → linkIn after x ≡ linkIn m x
+    other : (x : ℕ) → (linkPlace x + linkBytes ≤ linkPlace v) ⊎ (linkPlace v + linkBytes ≤ linkPlace x) → linkIn after x ≡ linkIn m x
     other x side =
         let long = bytesOf-length l in
         λ i. record {
-          distance = signed (number (overwrite-frame m (linkAt v) (bytesOf l) fits (linkAt x) 8 (⊎-map (λ h. omega arith) (λ h. omega arith) side) i));
-          parent = number (overwrite-frame m (linkAt v) (bytesOf l) fits (linkAt x + 8) 2 (⊎-map (λ h. omega arith) (λ h. omega arith) side) i);
-          label = overwrite-outside m (linkAt v) (bytesOf l) fits (linkAt x + 10) (⊎-map (λ h. omega arith) (λ h. omega arith) side) i;
-          mark = overwrite-outside m (linkAt v) (bytesOf l) fits (linkAt x + 11) (⊎-map (λ h. omega arith) (λ h. omega arith) side) i;
+          distance = signed (number (overwrite-frame m (linkPlace v) (bytesOf l) fits (linkPlace x) 8 (⊎-map (λ h. omega arith) (λ h. omega arith) side) i));
+          parent = number (overwrite-frame m (linkPlace v) (bytesOf l) fits (linkPlace x + 8) 2 (⊎-map (λ h. omega arith) (λ h. omega arith) side) i);
+          label = overwrite-outside m (linkPlace v) (bytesOf l) fits (linkPlace x + 10) (⊎-map (λ h. omega arith) (λ h. omega arith) side) i;
+          mark = overwrite-outside m (linkPlace v) (bytesOf l) fits (linkPlace x + 11) (⊎-map (λ h. omega arith) (λ h. omega arith) side) i;
         }
 
     -- the link is read back, and every other as it was
     pub puts : Puts v l m after
     puts = record {
       links = λ x h. put-one (linkIn after) (linkIn m) v l same x (λ side. other x (⊎-map (λ h. omega arith) (λ h. omega arith) side));
-      only = overwrite-only m (linkAt v) (bytesOf l) fits linksAt linksSize (omega arith) (omega (arith, bytesOf-length l));
+      only = overwrite-only m (linkPlace v) (bytesOf l) fits linksAt linksSize (omega arith) (omega (arith, bytesOf-length l));
     }
 
 -- the four writes of a link are one
@@ -154,7 +127,7 @@ link-written m at l h =
 
 module _ (m : List ℕ) (v b : ℕ) (room : linksEnd ≤ length m) (below : v < maxNodes) where
   abbrev markAt : ℕ
-  markAt = linkAt v + 11
+  markAt = linkPlace v + 11
 
   abbrev remarked : List ℕ
   remarked = overwrite m markAt (b ∷ [])
@@ -164,22 +137,22 @@ module _ (m : List ℕ) (v b : ℕ) (room : linksEnd ≤ length m) (below : v < 
 
   same-mark : linkIn remarked v ≡ marked b (linkIn m v)
   same-mark = λ i. record {
-    distance = signed (number (overwrite-frame m markAt (b ∷ []) mark-fits (linkAt v) 8 (inl (omega arith)) i));
-    parent = number (overwrite-frame m markAt (b ∷ []) mark-fits (linkAt v + 8) 2 (inl (omega arith)) i);
-    label = overwrite-outside m markAt (b ∷ []) mark-fits (linkAt v + 10) (inl (omega arith)) i;
+    distance = signed (number (overwrite-frame m markAt (b ∷ []) mark-fits (linkPlace v) 8 (inl (omega arith)) i));
+    parent = number (overwrite-frame m markAt (b ∷ []) mark-fits (linkPlace v + 8) 2 (inl (omega arith)) i);
+    label = overwrite-outside m markAt (b ∷ []) mark-fits (linkPlace v + 10) (inl (omega arith)) i;
     mark = (ap (λ (k : ℕ). getD remarked k 0) (sym (add-zero markAt)) ∙ overwrite-inside m markAt (b ∷ []) mark-fits 0 (omega arith)) i;
   }
 
-  other-mark : (x : ℕ) → (linkAt x + linkBytes ≤ linkAt v) ⊎ (linkAt v + linkBytes ≤ linkAt x) → linkIn remarked x ≡ linkIn m x
+  other-mark : (x : ℕ) → (linkPlace x + linkBytes ≤ linkPlace v) ⊎ (linkPlace v + linkBytes ≤ linkPlace x) → linkIn remarked x ≡ linkIn m x
   other-mark x side = λ i. record {
-    distance = signed (number (overwrite-frame m markAt (b ∷ []) mark-fits (linkAt x) 8 (⊎-map (λ h. omega arith) (λ h. omega arith) side) i));
-    parent = number (overwrite-frame m markAt (b ∷ []) mark-fits (linkAt x + 8) 2 (⊎-map (λ h. omega arith) (λ h. omega arith) side) i);
-    label = overwrite-outside m markAt (b ∷ []) mark-fits (linkAt x + 10) (⊎-map (λ h. omega arith) (λ h. omega arith) side) i;
-    mark = overwrite-outside m markAt (b ∷ []) mark-fits (linkAt x + 11) (⊎-map (λ h. omega arith) (λ h. omega arith) side) i;
+    distance = signed (number (overwrite-frame m markAt (b ∷ []) mark-fits (linkPlace x) 8 (⊎-map (λ h. omega arith) (λ h. omega arith) side) i));
+    parent = number (overwrite-frame m markAt (b ∷ []) mark-fits (linkPlace x + 8) 2 (⊎-map (λ h. omega arith) (λ h. omega arith) side) i);
+    label = overwrite-outside m markAt (b ∷ []) mark-fits (linkPlace x + 10) (⊎-map (λ h. omega arith) (λ h. omega arith) side) i;
+    mark = overwrite-outside m markAt (b ∷ []) mark-fits (linkPlace x + 11) (⊎-map (λ h. omega arith) (λ h. omega arith) side) i;
   }
 
   -- one byte is the mark
-  pub mark-written : Puts v (marked b (linkIn m v)) m (set m (linkAt v + 11) b)
+  pub mark-written : Puts v (marked b (linkIn m v)) m (set m (linkPlace v + 11) b)
   mark-written =
       subst (Puts v (marked b (linkIn m v)) m) (sym (overwrite-one m markAt b (omega arith))) (record {
         links = λ x h. put-one (linkIn remarked) (linkIn m) v (marked b (linkIn m v)) same-mark x (λ side. other-mark x (⊎-map (λ h. omega arith) (λ h. omega arith) side));
@@ -197,36 +170,45 @@ stepBytesOf-length s = length-append (bytes 2 (s .node)) (s .label ∷ []) ∙ a
 
 module _ (s : Taken) (low : s .node < 256 ^ 2) (m : List ℕ) (i : ℕ) (room : linksEnd ≤ length m) (below : i < maxSteps) where
   abbrev stepped : List ℕ
-  stepped = overwrite m (stepAt i) (stepBytesOf s)
+  stepped = overwrite m (stepPlace i) (stepBytesOf s)
 
-  step-fits : stepAt i + length (stepBytesOf s) ≤ length m
+  step-fits : stepPlace i + length (stepBytesOf s) ≤ length m
   step-fits = omega (arith, stepBytesOf-length s)
 
-  same-step : stepIn stepped i ≡ s
+  same-step : takenIn stepped i ≡ s
   same-step =
       let long = stepBytesOf-length s in
       λ j. record {
         node =
-            (ap (λ (k : ℕ). number (part stepped k 2)) (sym (add-zero (stepAt i)))
-            ∙ ap number (overwrite-within m (stepAt i) (stepBytesOf s) step-fits 0 2 (omega arith))
+            (ap (λ (k : ℕ). number (part stepped k 2)) (sym (add-zero (stepPlace i)))
+            ∙ ap number (overwrite-within m (stepPlace i) (stepBytesOf s) step-fits 0 2 (omega arith))
             ∙ ap number (take-at (bytes 2 (s .node)) (s .label ∷ []) 2 (bytes-length 2 _)) ∙ number-bytes 2 (s .node) low) j;
         label =
-            (overwrite-inside m (stepAt i) (stepBytesOf s) step-fits 2 (omega arith)
+            (overwrite-inside m (stepPlace i) (stepBytesOf s) step-fits 2 (omega arith)
             ∙ getD-skip (bytes 2 (s .node)) (s .label ∷ []) 2 0 (bytes-length 2 _)) j;
       }
 
-  other-step : (x : ℕ) → (stepAt x + stepBytes ≤ stepAt i) ⊎ (stepAt i + stepBytes ≤ stepAt x) → stepIn stepped x ≡ stepIn m x
+  other-step : (x : ℕ) → (stepPlace x + stepBytes ≤ stepPlace i) ⊎ (stepPlace i + stepBytes ≤ stepPlace x) → takenIn stepped x ≡ takenIn m x
   other-step x side =
       let long = stepBytesOf-length s in
       λ j. record {
-        node = number (overwrite-frame m (stepAt i) (stepBytesOf s) step-fits (stepAt x) 2 (⊎-map (λ h. omega arith) (λ h. omega arith) side) j);
-        label = overwrite-outside m (stepAt i) (stepBytesOf s) step-fits (stepAt x + 2) (⊎-map (λ h. omega arith) (λ h. omega arith) side) j;
+        node = number (overwrite-frame m (stepPlace i) (stepBytesOf s) step-fits (stepPlace x) 2 (⊎-map (λ h. omega arith) (λ h. omega arith) side) j);
+        label = overwrite-outside m (stepPlace i) (stepBytesOf s) step-fits (stepPlace x + 2) (⊎-map (λ h. omega arith) (λ h. omega arith) side) j;
       }
 
   -- the step is read back, and every other as it was
   pub puts-step : PutsStep i s m stepped
   puts-step = record {
-    steps = λ x h. put-one (stepIn stepped) (stepIn m) i s same-step x (λ side. other-step x (⊎-map (λ h. omega arith) (λ h. omega arith) side));
+    steps = λ x h. put-one (takenIn stepped) (takenIn m) i s same-step x (λ side. other-step x (⊎-map (λ h. omega arith) (λ h. omega arith) side));
     only =
-        overwrite-only m (stepAt i) (stepBytesOf s) step-fits stepsAt stepsSize (omega arith) (omega (arith, stepBytesOf-length s));
+        overwrite-only m (stepPlace i) (stepBytesOf s) step-fits stepsAt stepsSize (omega arith) (omega (arith, stepBytesOf-length s));
   }
+
+-- the links beside a change of steps
+pub only-links : {m m′ : List ℕ} → Only stepsAt stepsSize m m′ → (v : ℕ) → v < maxNodes → linkIn m′ v ≡ linkIn m v
+only-links o v h = λ i. record {
+  distance = signed (number (only-part o (linkPlace v) 8 (inl (omega arith)) i));
+  parent = number (only-part o (linkPlace v + 8) 2 (inl (omega arith)) i);
+  label = o .others (linkPlace v + 10) (inl (omega arith)) i;
+  mark = o .others (linkPlace v + 11) (inl (omega arith)) i;
+}

@@ -7,7 +7,7 @@ use Prim.Native.Nat.{ℕ, _+_, _*_, _<_, _≤_}
 use lib.Dec.{eqb, ltb}
 use lib.IntN.{pos}
 use lib.ListN.{length, getD}
-use Rattle.model.specs.Bytes.{number, signed, part}
+use Rattle.model.specs.Bytes.{number, signed, part, Only}
 use Rattle.model.specs.Limits.{maxNodes, maxSteps}
 use Rattle.model.specs.Lists.{upFrom}
 use Rattle.store.specs.Store.{storeBytes}
@@ -42,23 +42,23 @@ abbrev pub linksEnd : ℕ
 linksEnd = stepsAt + stepsSize
 
 -- the link to the node v: the distance in eight bytes, the parent in two, the label and the mark
-abbrev pub linkAt : ℕ → ℕ
-linkAt v = linksAt + linkBytes * v
+abbrev pub linkPlace : ℕ → ℕ
+linkPlace v = linksAt + linkBytes * v
 
 abbrev pub linkIn : List ℕ → ℕ → Link
 linkIn memory v = record {
-  distance = signed (number (part memory (linkAt v) 8));
-  parent = number (part memory (linkAt v + 8) 2);
-  label = getD memory (linkAt v + 10) 0;
-  mark = getD memory (linkAt v + 11) 0;
+  distance = signed (number (part memory (linkPlace v) 8));
+  parent = number (part memory (linkPlace v + 8) 2);
+  label = getD memory (linkPlace v + 10) 0;
+  mark = getD memory (linkPlace v + 11) 0;
 }
 
 -- the step i: the node in two bytes, and the label
-abbrev pub stepAt : ℕ → ℕ
-stepAt i = stepsAt + stepBytes * i
+abbrev pub stepPlace : ℕ → ℕ
+stepPlace i = stepsAt + stepBytes * i
 
-abbrev pub stepIn : List ℕ → ℕ → Taken
-stepIn memory i = record { node = number (part memory (stepAt i) 2); label = getD memory (stepAt i + 2) 0 }
+abbrev pub takenIn : List ℕ → ℕ → Taken
+takenIn memory i = record { node = number (part memory (stepPlace i) 2); label = getD memory (stepPlace i + 2) 0 }
 
 -- the marks: no walk is known, the edges are still to be tried, they have been tried
 abbrev pub unknown : ℕ
@@ -84,13 +84,8 @@ stateIn memory = record {
 abbrev pub takenOf : Taken → search.Taken
 takenOf s = record { node = s .node; label = s .label }
 
-abbrev pub stepsIn : List ℕ → ℕ → List search.Taken
-stepsIn memory k = map (λ i. takenOf (stepIn memory i)) (upFrom 0 k)
-
--- every byte but the k from a place on is as it was
-pub record Only (at k : ℕ) (before after : List ℕ) : Type 0 where
-  pub long : length after ≡ length before
-  pub bytes : (i : ℕ) → (i < at) ⊎ (at + k ≤ i) → getD after i 0 ≡ getD before i 0
+abbrev pub firstSteps : List ℕ → ℕ → List search.Taken
+firstSteps memory k = map (λ i. takenOf (takenIn memory i)) (upFrom 0 k)
 
 -- a link with another mark
 abbrev pub marked : ℕ → Link → Link
@@ -103,7 +98,7 @@ pub record Puts (v : ℕ) (link : Link) (before after : List ℕ) : Type 0 where
 
 -- the step i is this one, every other is as it was, and so is every byte of no step
 pub record PutsStep (i : ℕ) (step : Taken) (before after : List ℕ) : Type 0 where
-  pub steps : (x : ℕ) → x < maxSteps → stepIn after x ≡ cond (eqb x i) step (stepIn before x)
+  pub steps : (x : ℕ) → x < maxSteps → takenIn after x ≡ cond (eqb x i) step (takenIn before x)
   pub only : Only stepsAt stepsSize before after
 
 -- ---- the search
@@ -136,5 +131,5 @@ WayUp memory u v (Above j) = (above (stateIn memory .parent) j u ≡ v) × Befor
 
 -- the steps are those down to u from the node j steps above it, and one with a label; every byte of no step is as it was
 pub record Closes (u label j : ℕ) (before after : List ℕ) : Type 0 where
-  pub steps : stepsIn after (j + 1) ≡ trail (stateIn before .parent) (stateIn before .label) j u ++ (record { node = u; label = label } ∷ [])
+  pub steps : firstSteps after (j + 1) ≡ trail (stateIn before .parent) (stateIn before .label) j u ++ (record { node = u; label = label } ∷ [])
   pub only : Only stepsAt stepsSize before after

@@ -4,7 +4,7 @@ ghost use Prim.Native.Nat.{_+_, _≤_, _<_};
 ghost use lib.ListN.{length};
 ghost use Rattle.model.specs.Limits.{maxNodes, maxSteps};
 ghost use Rattle.theory.specs.Search.{Before};
-ghost use Rattle.links.specs.Links.{linksEnd, linkIn, stepIn, stateIn, marked, Puts, PutsStep, Begins, Climbs, WayUp, Closes};
+ghost use Rattle.links.specs.Links.{linksEnd, linkIn, takenIn, stateIn, marked, Puts, PutsStep, Begins, Climbs, WayUp, Closes};
 
 // A link: the distance of a node, its parent, the label that leads from there to it, and a mark.
 pub struct Link {
@@ -81,7 +81,7 @@ pub fn set_mark(m: &mut [u8], v: usize, mark: u8)
 // The step i of the cycle.
 pub fn step_at(m: &[u8], i: usize) -> Taken
     requires { ⌜ (i < maxSteps) × (linksEnd ≤ length (now m)) ⌝ }
-    ensures { λ r. ⌜ r ≡ stepIn (now (m .entry)) i ⌝ }
+    ensures { λ r. ⌜ r ≡ takenIn (now (m .entry)) i ⌝ }
 {
     let at = STEPS + STEP_BYTES * i;
     let node = words::read_u16(m, at) as usize;

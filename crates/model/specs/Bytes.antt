@@ -1,10 +1,12 @@
 -- Numbers as bytes, and what a write leaves in lent memory.
-use Prim.Native.Nat.{ℕ, zero, suc, _+_, _-_, _*_, _/_, _%_, _^_}
-use mathlib.Core.Bool.{cond}
+use mathlib.Core.Path.{_≡_}
+use mathlib.Core.Logic.{_⊎_}
+use Prim.Native.Nat.{ℕ, zero, suc, _+_, _-_, _*_, _/_, _%_, _^_, _≤_, _<_}
+use mathlib.Core.Bool.{Bool, cond}
 use mathlib.Core.List.{List, [], _∷_, _++_, foldl}
 use lib.Dec.{ltb}
 use lib.IntN.{ℤ, pos, negsuc}
-use lib.ListN.{length, take, drop, replicate}
+use lib.ListN.{length, getD, take, drop, replicate}
 
 -- "most significant byte first": the number that the bytes are
 unfoldable pub number : List ℕ → ℕ
@@ -35,3 +37,12 @@ overwrite memory at bs = take at memory ++ bs ++ drop (at + length bs) memory
 -- "all zero"
 abbrev pub cleared : List ℕ → List ℕ
 cleared memory = replicate (length memory) 0
+
+-- "Work memory .. is all zero after each call, save after 11, which touches nothing": where it is enough, 11 isn't due
+abbrev pub workAfter : Bool → List ℕ → List ℕ
+workAfter enough before = cond enough (cleared before) before
+
+-- What scratch memory holds is free: the k bytes from a place on may be any, and every other byte is as it was.
+pub record Only (at k : ℕ) (before after : List ℕ) : Type 0 where
+  pub long : length after ≡ length before
+  pub others : (i : ℕ) → (i < at) ⊎ (at + k ≤ i) → getD after i 0 ≡ getD before i 0

@@ -17,11 +17,11 @@ use Rattle.model.specs.Plan.{Arc, isArc, nextIn, rising, pairBelow}
 use Rattle.model.proofs.Plan.{rising-last}
 use Rattle.plan.specs.declared.Reading.{Reading}
 use Rattle.plan.specs.declared.Outcome.{Outcome}
-use Rattle.plan.specs.View.{taskOf, tasksOf, labelCount, pairCount, arcAt, arcsBelow, arcsIn, nextOf, answerWith, Within, Least, Holds}
+use Rattle.plan.specs.View.{taskView, tasksOf, labelCount, pairCount, arcAt, arcsBelow, arcsIn, nextOf, answerWith, Within, Least, Holds}
 
 -- as many tasks as the count says
 pub task-count : (r : Reading) → Within r → length (tasksOf (r .tasks) (r .count)) ≡ r .count
-task-count r w = length-map (take (r .count) (r .tasks)) taskOf ∙ length-take-le (r .count) (r .tasks) (omega arith)
+task-count r w = length-map (take (r .count) (r .tasks)) taskView ∙ length-take-le (r .count) (r .tasks) (omega arith)
 
 -- entries without a next state add no arc
 arcs-above : (next : List ℕ) (n k : ℕ) → ((j : ℕ) → n ≤ j → getD next j 0 ≡ 0) → arcsBelow next (n + k) ≡ arcsBelow next n

@@ -30,11 +30,11 @@ abbrev pub checkNumber : Outcome → ℕ
 checkNumber Sound = 0
 checkNumber (Faulty f) = faultNumber f
 
-abbrev pub taskOf : Task → model.Task
-taskOf t = record { work = t .work; window = t .window; value = t .value }
+abbrev pub taskView : Task → model.Task
+taskView t = record { work = t .work; window = t .window; value = t .value }
 
 abbrev pub tasksOf : List Task → ℕ → List model.Task
-tasksOf ts n = map taskOf (take n ts)
+tasksOf ts n = map taskView (take n ts)
 
 -- the labels of a state, and all pairs of a state and a label
 abbrev pub labelCount : ℕ

@@ -12,7 +12,7 @@ use Rattle.model.specs.Plan.{nextIn, IsSound}
 use Rattle.model.specs.Limits.{maxStates}
 use Rattle.theory.proofs.Sound.{sound-plan, nextIn-arc}
 use Rattle.theory.proofs.Schedules.{task-sound}
-use Rattle.plan.specs.View.{taskOf, tasksOf, arcsIn, StatesFit, Sized}
+use Rattle.plan.specs.View.{taskView, tasksOf, arcsIn, StatesFit, Sized}
 use Rattle.plan.specs.declared.Plan.{Plan}
 use Rattle.policy.specs.View.{TasksInRange}
 
@@ -34,4 +34,4 @@ states-fit P s next e = record { to = λ from l t h. fits from l t (subst (λ as
 
 -- it has as many tasks as its count says
 pub tasks-size : (p : Plan) → Sized p → length (tasksOf (p .tasks) (p .count)) ≡ p .count
-tasks-size p s = length-map (take (p .count) (p .tasks)) taskOf ∙ length-take-le (p .count) (p .tasks) (omega (arith, s .fits, s .room))
+tasks-size p s = length-map (take (p .count) (p .tasks)) taskView ∙ length-take-le (p .count) (p .tasks) (omega (arith, s .fits, s .room))

@@ -12,7 +12,7 @@ ghost use Rattle.model.specs.Limits.{maxTasks, maxWindow};
 ghost use Rattle.model.specs.Lists.{keep};
 ghost use Rattle.model.specs.Slot.{newJobs, canFinish, worked, tick, stays};
 ghost use Rattle.model.specs.Plan.{IsSound};
-ghost use Rattle.plan.specs.View.{taskOf, tasksOf, planOf, Sized};
+ghost use Rattle.plan.specs.View.{taskView, tasksOf, planOf, Sized};
 ghost use Rattle.policy.specs.View.{Tasks, cellCount, slotCells, taskAt, leftIn, leftTable, jobIn, jobsOf, TasksInRange, Cells, Leaves, Filled, Low, hasWork, newWork, keyNumber, keyIn, codeIn, Chosen, tasksIn, Ruled, RulesOf, Slotted};
 
 const MAX_TASKS: usize = limits::MAX_TASKS;
@@ -58,7 +58,7 @@ pub struct Done {
 
 // The task of a cell; one with no work and no window where it is not there.
 fn task_in(tasks: [Task; MAX_TASKS], count: usize, k: usize) -> Task
-    ensures { λ r. ⌜ taskOf r ≡ taskAt (tasksOf tasks count) k ⌝ }
+    ensures { λ r. ⌜ taskView r ≡ taskAt (tasksOf tasks count) k ⌝ }
 {
     let i = k % MAX_TASKS;
     if count <= i {

@@ -80,7 +80,7 @@ module _ (P : Plan) (c : Certificate) (r : Rules) (next m s : List ℕ) (claim :
         fitsP = t .fitsP;
         fitsHigh = subst (λ (z : ℤ). natAbs z ≤ maxHigh) (sym is-high) (high-small (potentialAt zs u) (claim .q * d .done .gain) small potential-small);
         noted = λ k h.
-            subst (λ (n : Notes). 0 < getD (n .best) (patternIn after k) outcomes.none .score) (sym (reaches .notes))
+            subst (λ (n : Notes). 0 < getD (n .best) (patternIn after k) outcomes.notNoted .score) (sym (reaches .notes))
             (order-scored ts (ruled .tasks) label (node .taken) low (patternIn after k) (noted-there expanded k h));
         found = λ k h.
             let v = withPattern (d .done .cells) state (patternIn after k) in
@@ -121,6 +121,6 @@ module _ (P : Plan) (c : Certificate) (r : Rules) (next m s : List ℕ) (claim :
           ∙ ap (λ (l : Tasks). all (λ ms. ok (joined (node .taken) ms / 2) (worth l ms)) (choices ts label (node .taken))) (t .planned .for .tasks)
           ∙ greatest ts (ruled .tasks) label (node .taken) low ok
           (λ p g h. less-charge (potentialAt zs (numberIn (nodes P) (record { jobs = done .jobs; taken = p; state = state }))) (potentialAt zs u) (claim .q * done .gain) (claim .p) g h)
-          ∙ ap (λ (n : Notes). all (λ p. ok p (getD (n .best) p outcomes.none .score - 1)) (n .order)) (sym (reaches .notes))
+          ∙ ap (λ (n : Notes). all (λ p. ok p (getD (n .best) p outcomes.notNoted .score - 1)) (n .order)) (sym (reaches .notes))
           ∙ all-same (λ p. ok p (gainIn after (d .count) p)) (patternOk claim zs after (d .count) m (d .done .cells) state high) (orderIn after (d .count))
           (λ p k. ok-pattern p))

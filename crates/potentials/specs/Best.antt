@@ -11,7 +11,7 @@ use Rattle.theory.specs.Lightest.{Best}
 use Rattle.plan.specs.View.{arcsIn, nextOf}
 use Rattle.policy.specs.View.{tasksIn, Ruled}
 use Rattle.policy.specs.declared.Rules.{Rules}
-use Rattle.graph.specs.Outcomes.{patternCount, none, notesIn}
+use Rattle.graph.specs.Outcomes.{patternCount, notNoted, notesIn}
 use Rattle.graph.specs.Label.{Reaches}
 use Rattle.graph.specs.View.{Planned}
 use Rattle.graph.specs.declared.Node.{Node}
@@ -41,7 +41,7 @@ placeOf m n cells state p = indexIn (rowsIn m n) (rowOf (withPattern cells state
 
 -- the masks noted for a pattern
 abbrev pub masksIn : List ℕ → ℕ → ℕ → List ℕ
-masksIn notes count p = getD (notesIn notes count .best) p none .masks
+masksIn notes count p = getD (notesIn notes count .best) p notNoted .masks
 
 -- a best edge of the label l from the node u to the node v has what is noted for the pattern p
 pub record NotedBest (P : Plan) (u l v : ℕ) (notes : List ℕ) (d : Noted) (p : ℕ) : Type 0 where

@@ -5,7 +5,7 @@ ghost use mathlib.Core.Path.{_≡_};
 ghost use mathlib.Core.Option.{some};
 ghost use Prim.Native.Nat.{_*_, _≤_};
 ghost use lib.IntN.{pos};
-ghost use lib.ListN.{length, drop};
+ghost use lib.ListN.{length};
 ghost use lib.Signed.{leZ};
 ghost use Rattle.model.specs.Certificate.{Certificate, readCertificate};
 ghost use Rattle.model.specs.Check.{edgeOk, edgesOkFrom};
@@ -14,7 +14,7 @@ ghost use Rattle.model.specs.Limits.{maxQ};
 ghost use Rattle.model.specs.Lists.{all};
 ghost use Rattle.model.specs.Plan.{Plan};
 ghost use Rattle.policy.specs.View.{tasksIn, Ruled};
-ghost use Rattle.graph.specs.Outcomes.{noteRoom};
+ghost use Rattle.graph.specs.Outcomes.{noteRoom, NotesFree};
 ghost use Rattle.graph.specs.Label.{orderIn};
 ghost use Rattle.graph.specs.View.{nodeOf};
 ghost use Rattle.potentials.specs.Potentials.{Test, Testing, potentialOf, Findable, Numbered, patternOk, Charged};
@@ -92,7 +92,7 @@ fn label_holds(
 ) -> bool
     requires { ⌜ Ruled rules × Testing rules (now next) (now m) (now s) claim × Numbered (now m) (claim .n) u node × (noteRoom ≤ length (now notes)) ⌝ }
     ensures { λ b. ⌜ ((P : Plan) (c : Certificate) → Test P c rules (now (next .entry)) (now (m .entry)) (now (s .entry)) claim → b ≡ all (edgeOk (nodes P) (claim .p) (claim .q) (c .potentials) u) (edgesAt P (nodeOf (tasksIn rules) node) label)) ⌝ }
-    ensures { λ _. ⌜ drop noteRoom (now (notes .exit)) ≡ drop noteRoom (now (notes .entry)) ⌝ }
+    ensures { λ _. ⌜ NotesFree (now (notes .entry)) (now (notes .exit)) ⌝ }
 {
     let to = plan::next_state(next, node.state, label);
     if to == 0 {
@@ -120,7 +120,7 @@ fn node_holds(
 ) -> bool
     requires { ⌜ Ruled rules × Testing rules (now next) (now m) (now s) claim × Numbered (now m) (claim .n) u node × (noteRoom ≤ length (now notes)) ⌝ }
     ensures { λ b. ⌜ ((P : Plan) (c : Certificate) → Test P c rules (now (next .entry)) (now (m .entry)) (now (s .entry)) claim → b ≡ all (edgeOk (nodes P) (claim .p) (claim .q) (c .potentials) u) (edges P (nodeOf (tasksIn rules) node))) ⌝ }
-    ensures { λ _. ⌜ drop noteRoom (now (notes .exit)) ≡ drop noteRoom (now (notes .entry)) ⌝ }
+    ensures { λ _. ⌜ NotesFree (now (notes .entry)) (now (notes .exit)) ⌝ }
 {
     let labels = 1u8 << rules.count;
     let mut label = 0;
@@ -144,7 +144,7 @@ pub fn edges_hold(
 ) -> bool
     requires { ⌜ Ruled rules × Testing rules (now next) (now m) (now s) claim × (noteRoom ≤ length (now notes)) ⌝ }
     ensures { λ b. ⌜ ((P : Plan) (c : Certificate) → Test P c rules (now (next .entry)) (now (m .entry)) (now (s .entry)) claim → b ≡ edgesOkFrom P (nodes P) (claim .p) (claim .q) (c .potentials) 0 (nodes P)) ⌝ }
-    ensures { λ _. ⌜ drop noteRoom (now (notes .exit)) ≡ drop noteRoom (now (notes .entry)) ⌝ }
+    ensures { λ _. ⌜ NotesFree (now (notes .entry)) (now (notes .exit)) ⌝ }
 {
     let n = claim.n;
     let mut number = 1;

@@ -19,7 +19,8 @@ use Rattle.policy.specs.declared.Rules.{Rules}
 use Rattle.graph.specs.View.{Planned}
 use Rattle.discovery.specs.Discovery.{Holds}
 use Rattle.potentials.specs.declared.Claim.{Claim}
-use Rattle.links.specs.Links.{linksAt, linksSize, stepsIn, Only}
+use Rattle.model.specs.Bytes.{Only}
+use Rattle.links.specs.Links.{linksAt, linksSize, firstSteps}
 use Rattle.distances.specs.Distances.{Turned, Settles}
 use Rattle.distances.proofs.Rows.{step-kept, steps-kept, holds-kept}
 use Rattle.circuit.specs.Circuit.{Turns}
@@ -38,7 +39,7 @@ module _ {P : Plan} {r : Rules} {next m : List ℕ} {claim : Claim} {k : ℕ} (c
   pub circling-few : k ≤ claim .n
   circling-few = omega (arith, c .turned .circuit .few, steps-length m k)
 
-  circling-sums : (kept (c .turned .circuit .edges) ≤ maxP) × (ideal (c .turned .circuit .edges) ≤ maxQ) × (0 < ideal (c .turned .circuit .edges)) × (0 < length (stepsIn m k))
+  circling-sums : (kept (c .turned .circuit .edges) ≤ maxP) × (ideal (c .turned .circuit .edges) ≤ maxQ) × (0 < ideal (c .turned .circuit .edges)) × (0 < length (firstSteps m k))
   circling-sums = circuit-sums P (sound-plan P (c .planned .sound)) (c .turned .circuit) (c .holds .rows .index .few)
 
   -- the clairvoyant gains on it

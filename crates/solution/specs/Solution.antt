@@ -14,7 +14,7 @@ use Rattle.policy.specs.declared.Rules.{Rules}
 use Rattle.graph.specs.View.{Planned}
 use Rattle.discovery.specs.Discovery.{Holds}
 use Rattle.potentials.specs.declared.Claim.{Claim}
-use Rattle.links.specs.Links.{stepIn, stateIn, stepsIn}
+use Rattle.links.specs.Links.{takenIn, stateIn, firstSteps}
 use Rattle.distances.specs.Distances.{SearchIn, Turned}
 use Rattle.circuit.specs.declared.Fraction.{Fraction}
 use Rattle.solution.specs.declared.Solution.{Solution}
@@ -27,9 +27,9 @@ claimOf s n = record { p = s .p; q = s .q; n = n }
 pub record Tight (P : Plan) (n : ℕ) (m : List ℕ) (p q k : ℕ) : Type 0 where
   pub node : ℕ
   pub below : node < n
-  pub nodes : (i : ℕ) → i < k → stepIn m i .node < n
+  pub nodes : (i : ℕ) → i < k → takenIn m i .node < n
   pub edges : List Edge
-  pub along : Along P node (stepsIn m k) node edges
+  pub along : Along P node (firstSteps m k) node edges
   pub few : k ≤ n
   pub some : 0 < ideal edges
   pub exact : p * ideal edges ≡ q * kept edges

@@ -5,13 +5,14 @@ use potentials::Claim;
 ghost use mathlib.Core.Path.{_≡_};
 ghost use mathlib.Core.List.{List};
 ghost use Prim.Native.Nat.{ℕ, _+_, _≤_};
-ghost use lib.ListN.{length, drop};
+ghost use lib.ListN.{length};
 ghost use Rattle.model.specs.Plan.{Plan};
 ghost use Rattle.policy.specs.View.{tasksIn, Ruled};
-ghost use Rattle.graph.specs.Outcomes.{noteRoom};
+ghost use Rattle.graph.specs.Outcomes.{noteRoom, NotesFree};
 ghost use Rattle.graph.specs.View.{Planned};
 ghost use Rattle.discovery.specs.Discovery.{Holds, Held};
-ghost use Rattle.links.specs.Links.{linksAt, linksSize, stepsSize, linksEnd, Only};
+ghost use Rattle.model.specs.Bytes.{Only};
+ghost use Rattle.links.specs.Links.{linksAt, linksSize, stepsSize, linksEnd};
 ghost use Rattle.solution.specs.Solution.{Circling, Circled, Lowers, Solving};
 
 // A fraction, and the steps of the cycle that attains it, 0 for 1/0.
@@ -25,7 +26,7 @@ pub struct Solution {
 fn attained(rules: Rules, steps: usize, notes: &mut [u8], m: &[u8]) -> Fraction
     requires { ⌜ Ruled rules × Circled rules (now m) steps × (linksEnd ≤ length (now m)) × (noteRoom ≤ length (now notes)) ⌝ }
     ensures { λ f. ⌜ ((P : Plan) (next : List ℕ) (claim : Claim) → Circling P rules next (now (m .entry)) claim steps → Lowers P claim (now (m .entry)) steps f) ⌝ }
-    ensures { λ _. ⌜ drop noteRoom (now (notes .exit)) ≡ drop noteRoom (now (notes .entry)) ⌝ }
+    ensures { λ _. ⌜ NotesFree (now (notes .entry)) (now (notes .exit)) ⌝ }
 {
     let sums = circuit::gains(rules, steps, notes, m);
     circuit::lowest(sums.kept, sums.ideal)
@@ -42,7 +43,7 @@ pub fn least(
     requires { ⌜ Ruled rules × Held rules (now next) (now m) n × (linksEnd ≤ length (now m)) × (noteRoom ≤ length (now notes)) ⌝ }
     ensures { λ s. ⌜ ((P : Plan) → Planned P rules (now (next .entry)) → Holds P (tasksIn rules) (now (m .entry)) n → Solving P rules (now (next .entry)) (now (m .exit)) n s) ⌝ }
     ensures { λ _. ⌜ Only linksAt (linksSize + stepsSize) (now (m .entry)) (now (m .exit)) ⌝ }
-    ensures { λ _. ⌜ drop noteRoom (now (notes .exit)) ≡ drop noteRoom (now (notes .entry)) ⌝ }
+    ensures { λ _. ⌜ NotesFree (now (notes .entry)) (now (notes .exit)) ⌝ }
 {
     let mut p = 1;
     let mut q = 0;

@@ -5,16 +5,21 @@ use mathlib.Core.List.{List}
 use mathlib.Core.Option.{Option·none-ne-some, Option·some-injective}
 use Prim.Native.Nat.{ℕ}
 use native.Mathlib.Omega.{arith}
+use mathlib.Core.Bool.{_&&_}
+use lib.Dec.{leb}
 use lib.ListN.{length}
+use Rattle.model.specs.Bytes.{workAfter}
+use Rattle.model.specs.Limits.{workRoom, certificateRoom}
 use Rattle.model.specs.Solve.{SolveAnswer, refused, solvable, solve}
 use Rattle.model.specs.Text.{refusedLine}
 use Rattle.text.specs.Put.{Put}
 use Rattle.text.proofs.Put.{put-as, put-inside}
 use Rattle.io.specs.Counts.{Counts}
-use Rattle.solver.specs.declared.Refusal.{Refusal}
+use Rattle.refusals.specs.Numbers.{refusalNumber}
+use Rattle.refusals.specs.declared.Refusal.{Refusal}
 use Rattle.solver.specs.declared.Answer.{Answer}
 use Rattle.solver.specs.declared.Answer.the-variants.{Refused, Written}
-use Rattle.solver.specs.Promise.{refusalNumber, refusedBy, writtenBy, Does, memoryAfter, Solves}
+use Rattle.solver.specs.Promise.{refusedBy, writtenBy, Does, Solves}
 use Rattle.solve_text.specs.Bytes.{Puts}
 
 -- what is put stands inside
@@ -28,7 +33,7 @@ module _ {plan work work′ out out′ : List ℕ} {a : Answer} (solved : Solves
 
   -- what is due is put, and the work memory is as the solver leaves it
   abbrev Promised : List ℕ → ℕ → Type 0
-  Promised after r = Puts due out after r × (Counts r after × (work′ ≡ memoryAfter work (length out)))
+  Promised after r = Puts due out after r × (Counts r after × (work′ ≡ workAfter (leb workRoom (length work) && leb certificateRoom (length out)) work))
 
   promised : (after : List ℕ) (r : ℕ) → Puts due out after r → Promised after r
   promised after r p = (p, (puts-inside due out after r p, solved .memory))

@@ -1,12 +1,14 @@
 // The certificate of a plan as a program writes it: its bytes, or the line of a refusal.
 use solver::Answer;
 ghost use mathlib.Core.Path.{_≡_};
+ghost use mathlib.Core.Bool.{_&&_};
 ghost use Prim.Native.Nat.{_≤_};
+ghost use lib.Dec.{leb};
 ghost use lib.ListN.{length};
 ghost use Rattle.io.specs.Counts.{Counts};
-ghost use Rattle.model.specs.Limits.{certificateRoom};
+ghost use Rattle.model.specs.Bytes.{workAfter};
+ghost use Rattle.model.specs.Limits.{workRoom, certificateRoom};
 ghost use Rattle.model.specs.Solve.{solve};
-ghost use Rattle.solver.specs.Promise.{memoryAfter};
 ghost use Rattle.solve_text.specs.Bytes.{Puts};
 
 // Writes the certificate of a plan, or the line of its refusal, and answers the number of bytes.
@@ -14,7 +16,7 @@ pub fn put_certificate(out: &mut [u8], plan: &[u8], work: &mut [u8]) -> usize
     requires { ⌜ certificateRoom ≤ length (now out) ⌝ }
     ensures { λ r. ⌜ Puts (solve (now (plan .entry)) (length (now (work .entry))) (length (now (out .entry)))) (now (out .entry)) (now (out .exit)) r ⌝ }
     ensures { λ r. ⌜ Counts r (now (out .exit)) ⌝ }
-    ensures { λ _. ⌜ now (work .exit) ≡ memoryAfter (now (work .entry)) (length (now (out .entry))) ⌝ }
+    ensures { λ _. ⌜ now (work .exit) ≡ workAfter (leb workRoom (length (now (work .entry))) && leb certificateRoom (length (now (out .entry)))) (now (work .entry)) ⌝ }
 {
     match solver::solve(plan, work, out) {
         Answer::Refused(r) => text::put_refusal(out, r.number()),

@@ -2,14 +2,14 @@
 use mathlib.Core.Path.{_≡_, refl, sym, _∙_, ap, ap₂, subst}
 use mathlib.Core.Bool.{Bool, true, false, cond, _&&_}
 use mathlib.Core.List.{List}
-use mathlib.Core.Option.{Option, none, some}
-use Prim.Native.Nat.{ℕ, suc, _≤_, _<_}
+use mathlib.Core.Option.{none, some, Option·none-ne-some, Option·some-injective}
+use Prim.Native.Nat.{ℕ, _≤_, _<_}
 use native.Mathlib.Omega.{arith}
 use lib.Dec.{leb}
 use lib.ListN.{length, take}
 use lib.Seq.{take-append-seam}
 use borrow.Author.Tests.{le-leb, lt-leb, le-ltb}
-use Rattle.model.specs.Bytes.{cleared, overwrite}
+use Rattle.model.specs.Bytes.{cleared, overwrite, workAfter}
 use Rattle.model.specs.Certificate.{readCertificate, certificateBytes}
 use Rattle.model.specs.Check as check-model
 use Rattle.model.specs.Check.{share, checkRead, checkPlan, check}
@@ -22,18 +22,13 @@ use Rattle.theory.proofs.Accepted.{accepted-iff}
 use Rattle.theory.proofs.Claim.{check-claim}
 use Rattle.solver.specs.declared.Answer.{Answer}
 use Rattle.solver.specs.declared.Answer.the-variants.{Refused, Written}
-use Rattle.solver.specs.declared.Refusal.the-variants.{ShortMemory}
-use Rattle.solver.specs.Promise.{refusedBy, writtenBy, Writes, Does, Certifies, memoryAfter, Solves}
-
--- what a number or none tells
-abbrev told : Option ℕ → ℕ
-told none = 0
-told (some n) = suc n
+use Rattle.refusals.specs.declared.Refusal.the-variants.{ShortMemory}
+use Rattle.solver.specs.Promise.{refusedBy, writtenBy, Writes, Does, Certifies, Solves}
 
 -- a refusal writes nothing
 not-both : (r : Answer) {n k : ℕ} → refusedBy r ≡ some n → writtenBy r ≡ some k → ⊥
-not-both (Refused f) e d = omega (arith, ap told d)
-not-both (Written m) e d = omega (arith, ap told e)
+not-both (Refused f) {k = k} e d = Option·none-ne-some k d
+not-both (Written m) {n} e d = Option·none-ne-some n e
 
 -- ---- too many nodes, or the certificate
 
@@ -43,13 +38,13 @@ module _ (P : Plan) (n : ℕ) (before after : List ℕ) (r : Answer) where
     where
       by : (b : Bool) → none ≡ cond b none (some n) → Does (cond b (refused tooManyNodes) (solvable P)) before after r
       by true k = record { number = number; kept = kept }
-      by false k = absurd (omega (arith, ap told k))
+      by false k = absurd (Option·none-ne-some n k)
 
   pub small : (k : ℕ) → some k ≡ cond (tooLarge P) none (some n) → Writes P before after r → Does (solvePlan (sound P)) before after r
   small k e w = by (tooLarge P) e
     where
       by : (b : Bool) → some k ≡ cond b none (some n) → Does (cond b (refused tooManyNodes) (solvable P)) before after r
-      by true h = absurd (omega (arith, ap told h))
+      by true h = absurd (Option·none-ne-some k (sym h))
       by false h = w
 
 -- ---- what is written is accepted
@@ -80,7 +75,7 @@ module _ (plan : List ℕ) (P : Plan) (read : readPlan plan ≡ sound P) (before
       by : (b : Bool) → tooLarge P ≡ b → Does (cond b (refused tooManyNodes) (solvable P)) before after r → Certifies plan P n after
       by true large f = absurd (not-both r (f .number) e)
       by false fits w =
-          let size : length (certificateBytes (w .certificate)) ≡ n = omega (arith, ap told (sym (w .size) ∙ e)) in
+          let size : length (certificateBytes (w .certificate)) ≡ n = Option·some-injective _ _ (sym (w .size) ∙ e) in
           let accepted : (lent : ℕ) → workRoom ≤ lent → _ = λ lent h.
           subst (λ (k : ℕ). check plan (take k after) lent ≡ share (w .certificate .p) (w .certificate .q) (length (nodes P)) (check-model.allowance (w .certificate .potentials)))
           size (accepts fits w lent h) in record {
@@ -102,8 +97,9 @@ module _ (plan work out : List ℕ) where
   unfolding solve
   solve-tested a b e d = ap₂ tested e d
 
-  memory-tested : (a b : Bool) → leb workRoom (length work) ≡ a → leb certificateRoom (length out) ≡ b → memoryAfter work (length out) ≡ cond (a && b) (cleared work) work
-  memory-tested a b e d = ap₂ (λ s t. cond (s && t) (cleared work) work) e d
+  memory-tested : (a b : Bool) → leb workRoom (length work) ≡ a → leb certificateRoom (length out) ≡ b →
+      workAfter (leb workRoom (length work) && leb certificateRoom (length out)) work ≡ workAfter (a && b) work
+  memory-tested a b e d = ap₂ (λ s t. workAfter (s && t) work) e d
 
   -- 11
   short : (a b : Bool) → leb workRoom (length work) ≡ a → leb certificateRoom (length out) ≡ b → (a && b) ≡ false →
@@ -112,8 +108,8 @@ module _ (plan work out : List ℕ) where
     due =
         subst (λ (s : SolveAnswer). Does s out out (Refused ShortMemory))
         (sym (solve-tested a b e d ∙ ap (λ (t : Bool). cond t (solvePlan (readPlan plan)) (refused shortMemory)) none-lent)) (record { number = refl; kept = refl });
-    certifies = λ P read n k. absurd (omega (arith, ap told k));
-    memory = sym (memory-tested a b e d ∙ ap (λ (t : Bool). cond t (cleared work) work) none-lent);
+    certifies = λ P read n k. absurd (Option·none-ne-some n k);
+    memory = sym (memory-tested a b e d ∙ ap (λ (t : Bool). workAfter t work) none-lent);
   }
 
   pub short-work : length work < workRoom → Solves plan work work out out (Refused ShortMemory)

@@ -1,31 +1,22 @@
 -- What the solve call promises.
 use mathlib.Core.Path.{_≡_}
-use mathlib.Core.Bool.{cond, _&&_}
+use mathlib.Core.Bool.{_&&_}
 use mathlib.Core.List.{List}
 use mathlib.Core.Option.{Option, none, some}
 use Prim.Native.Nat.{ℕ, _≤_}
 use lib.Dec.{leb}
 use lib.ListN.{length, take}
-use Rattle.model.specs.Bytes.{cleared, overwrite}
+use Rattle.model.specs.Bytes.{overwrite, workAfter}
 use Rattle.model.specs.Certificate.{Certificate, certificateBytes}
 use Rattle.model.specs.Check.{share, check}
 use Rattle.model.specs.Graph.{nodes}
 use Rattle.model.specs.Limits.{workRoom, certificateRoom}
 use Rattle.model.specs.Plan as model
-use Rattle.model.specs.Refusals.{tooManyNodes, shortMemory}
 use Rattle.model.specs.Share.{KeptShare}
 use Rattle.model.specs.Solve.{Solved, SolveAnswer, refused, solvable, solve}
-use Rattle.plan.specs.View.{faultNumber}
-use Rattle.solver.specs.declared.Refusal.{Refusal}
-use Rattle.solver.specs.declared.Refusal.the-variants.{ShortMemory, Plan, TooManyNodes}
+use Rattle.refusals.specs.Numbers.{refusalNumber}
 use Rattle.solver.specs.declared.Answer.{Answer}
 use Rattle.solver.specs.declared.Answer.the-variants.{Refused, Written}
-
--- the number of each refusal
-abbrev pub refusalNumber : Refusal → ℕ
-refusalNumber ShortMemory = shortMemory
-refusalNumber (Plan f) = faultNumber f
-refusalNumber TooManyNodes = tooManyNodes
 
 -- the number of a refusal, and the bytes that are written
 abbrev pub refusedBy : Answer → Option ℕ
@@ -61,12 +52,8 @@ pub record Certifies (plan : List ℕ) (P : model.Plan) (n : ℕ) (after : List 
   pub accepted : (lent : ℕ) → workRoom ≤ lent → check plan (take n after) lent ≡ share p q (length (nodes P)) k
   pub claim : KeptShare P p q k
 
--- "Work memory .. is all zero after each call, save after 11, which touches nothing."
-abbrev pub memoryAfter : List ℕ → ℕ → List ℕ
-memoryAfter before room = cond (leb workRoom (length before) && leb certificateRoom room) (cleared before) before
-
 -- for all plan bytes, work memory and output
 pub record Solves (plan work work′ out out′ : List ℕ) (r : Answer) : Type 0 where
   pub due : Does (solve plan (length work) (length out)) out out′ r
   pub certifies : (P : model.Plan) → model.readPlan plan ≡ model.sound P → (n : ℕ) → writtenBy r ≡ some n → Certifies plan P n out′
-  pub memory : work′ ≡ memoryAfter work (length out)
+  pub memory : work′ ≡ workAfter (leb workRoom (length work) && leb certificateRoom (length out)) work

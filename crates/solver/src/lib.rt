@@ -1,42 +1,23 @@
 // The solver: the certificate of a plan, or the refusal of the first fault.
 use discovery::Discovered;
-use plan::Fault;
 use plan::Outcome;
 use plan::Plan;
 use policy::Rules;
+use refusals::Refusal;
 ghost use mathlib.Core.Path.{_≡_};
-ghost use Prim.Native.Nat.{_≤_};
-ghost use lib.ListN.{length, drop};
+ghost use Prim.Native.Nat.{_+_, _≤_};
+ghost use lib.ListN.{length};
+ghost use Rattle.model.specs.Bytes.{Only};
 ghost use Rattle.model.specs.Limits.{workRoom, certificateRoom};
 ghost use Rattle.model.specs.Plan as model;
 ghost use Rattle.model.specs.Solve.{solvePlan};
 ghost use Rattle.plan.specs.View.{planOf, Sized};
 ghost use Rattle.policy.specs.View.{tasksIn, Ruled};
-ghost use Rattle.graph.specs.Outcomes.{noteRoom};
+ghost use Rattle.graph.specs.Outcomes.{noteRoom, NotesFree};
 ghost use Rattle.graph.specs.View.{Planned};
 ghost use Rattle.discovery.specs.Discovery.{Holds, Held};
-ghost use Rattle.links.specs.Links.{linksEnd};
-ghost use Rattle.solver.specs.Promise.{refusalNumber, Writes, Does, Solves};
-
-// Why no certificate is written.
-pub enum Refusal {
-    ShortMemory,
-    Plan(Fault),
-    TooManyNodes,
-}
-
-impl Refusal {
-    // Its number.
-    pub fn number(self) -> u64
-        ensures { λ r. ⌜ r ≡ refusalNumber self ⌝ }
-    {
-        match self {
-            Refusal::ShortMemory => 11,
-            Refusal::Plan(f) => f.number(),
-            Refusal::TooManyNodes => 5,
-        }
-    }
-}
+ghost use Rattle.links.specs.Links.{linksAt, linksSize, stepsSize, linksEnd};
+ghost use Rattle.solver.specs.Promise.{Writes, Does, Solves};
 
 // A refusal, or so many bytes written.
 pub enum Answer {
@@ -60,7 +41,8 @@ fn solve_nodes(
 ) -> Answer
     requires { ⌜ Ruled rules × Held rules (now next) (now m) n × (linksEnd ≤ length (now m)) × (noteRoom ≤ length (now notes)) × (certificateRoom ≤ length (now out)) ⌝ }
     ensures { λ r. ⌜ ((P : model.Plan) → Planned P rules (now (next .entry)) → Holds P (tasksIn rules) (now (m .entry)) n → Writes P (now (out .entry)) (now (out .exit)) r) ⌝ }
-    ensures { λ _. ⌜ drop noteRoom (now (notes .exit)) ≡ drop noteRoom (now (notes .entry)) ⌝ }
+    ensures { λ _. ⌜ Only linksAt (linksSize + stepsSize) (now (m .entry)) (now (m .exit)) ⌝ }
+    ensures { λ _. ⌜ NotesFree (now (notes .entry)) (now (notes .exit)) ⌝ }
 {
     let solution = solution::least(next, rules, n, notes, m);
     Answer::Written(writer::write(rules, n, solution, notes, m, out))
@@ -70,6 +52,7 @@ fn solve_nodes(
 fn solve_plan(plan: Plan, m: &mut [u8], out: &mut [u8]) -> Answer
     requires { ⌜ Sized plan × model.IsSound (planOf plan) × (workRoom ≤ length (now m)) × (certificateRoom ≤ length (now out)) ⌝ }
     ensures { λ r. ⌜ Does (solvePlan (model.sound (planOf plan))) (now (out .entry)) (now (out .exit)) r ⌝ }
+    ensures { λ _. ⌜ Only 0 linksEnd (now (m .entry)) (now (m .exit)) ⌝ }
 {
     let rules = policy::rules_of(plan);
     let next = plan.next;
@@ -84,6 +67,7 @@ fn solve_plan(plan: Plan, m: &mut [u8], out: &mut [u8]) -> Answer
 fn solve_bytes(plan: &[u8], m: &mut [u8], out: &mut [u8]) -> Answer
     requires { ⌜ (workRoom ≤ length (now m)) × (certificateRoom ≤ length (now out)) ⌝ }
     ensures { λ r. ⌜ Does (solvePlan (model.readPlan (now (plan .entry)))) (now (out .entry)) (now (out .exit)) r ⌝ }
+    ensures { λ _. ⌜ Only 0 linksEnd (now (m .entry)) (now (m .exit)) ⌝ }
 {
     let read = plan::read(plan);
     let outcome = read.outcome;

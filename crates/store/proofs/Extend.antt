@@ -6,15 +6,15 @@ use Prim.Native.Nat.{ℕ, suc, _+_, _*_, _^_, _≤_, _<_}
 use native.Mathlib.Decide.{decLt, ℕ-discrete}
 use native.Mathlib.Numerals.{add-one}
 use native.Mathlib.Omega.{arith}
-use lib.ListN.{length, drop}
-use Rattle.model.specs.Bytes.{number, bytes, part, overwrite}
+use lib.ListN.{length}
+use Rattle.model.specs.Bytes.{number, bytes, part, overwrite, Only}
+use Rattle.words.proofs.Free.{only-trans, overwrite-only}
 use Rattle.words.proofs.Memory.{overwrite-length, overwrite-part, overwrite-frame}
 use Rattle.words.proofs.Numbers.{bytes-length}
 use Rattle.words.proofs.Words.{number-overwrite}
 use Rattle.store.specs.Store.{rowBytes, maxRows, hashes, bucketsAt, chainAt, storeBytes, rowAt, hashOf, hashAt, lastOf, entryAt, Indexed, Appended}
 use Rattle.store.proofs.Index.{last-here, last-there, last-same, last-le}
 use Rattle.store.proofs.Rows.{rows-more, rows-same, hash-lt}
-use Rattle.store.proofs.Tables.{overwrite-beyond}
 
 -- memory after the row is written, after its entry in the chain is, and after the bucket is
 abbrev pub withRow : List ℕ → ℕ → List ℕ → List ℕ
@@ -43,8 +43,8 @@ module _ (m : List ℕ) (at i v : ℕ) (fits : at + 2 * i + 2 ≤ length m) wher
   entry-frame : (at′ k : ℕ) → Apart at′ k (at + 2 * i) 2 → part (withEntry m at i v) at′ k ≡ part m at′ k
   entry-frame at′ k apart = overwrite-frame m (at + 2 * i) (bytes 2 v) inside at′ k (rw bytes-length apart)
 
-  entry-beyond : (n : ℕ) → at + 2 * i + 2 ≤ n → n ≤ length m → drop n (withEntry m at i v) ≡ drop n m
-  entry-beyond n before long = overwrite-beyond m (at + 2 * i) (bytes 2 v) n (rw bytes-length before) long
+  entry-only : at + 2 * i + 2 ≤ storeBytes → Only 0 storeBytes m (withEntry m at i v)
+  entry-only within = overwrite-only m (at + 2 * i) (bytes 2 v) inside 0 storeBytes (omega arith) (rw bytes-length within)
 
   entry-put : v < 256 ^ 2 → entryAt (withEntry m at i v) at i ≡ v
   entry-put small = number-overwrite m (at + 2 * i) 2 v fits small
@@ -58,7 +58,7 @@ pub record Written (m m′ : List ℕ) (n : ℕ) (row : List ℕ) (v h : ℕ) : 
   pub chain-old : (j : ℕ) → j < n → entryAt m′ chainAt j ≡ entryAt m chainAt j
   pub bucket-new : entryAt m′ bucketsAt h ≡ n + 1
   pub bucket-old : (h′ : ℕ) → h′ < hashes → (h′ ≡ h → ⊥) → entryAt m′ bucketsAt h′ ≡ entryAt m bucketsAt h′
-  pub beyond : drop storeBytes m′ ≡ drop storeBytes m
+  pub only : Only 0 storeBytes m m′
 
 module _ (m : List ℕ) (n : ℕ) (row : List ℕ) (v h : ℕ) (room : storeBytes ≤ length m) (few : n < maxRows)
     (size : length row ≡ rowBytes) (hashed : h < hashes) (small : v < 256 ^ 2) where
@@ -104,9 +104,9 @@ module _ (m : List ℕ) (n : ℕ) (row : List ℕ) (v h : ℕ) (room : storeByte
         chain-old = λ j below. ap number (kept (chainAt + 2 * j) 2 (inr (omega arith)) (inl (omega arith)) (inr (omega arith)));
         bucket-new = entry-put (chained m n row v) bucketsAt h (n + 1) (omega (arith, chained-length)) (omega arith);
         bucket-old = λ h′ below other. ap number (kept (bucketsAt + 2 * h′) 2 (inr (omega arith)) (inl (omega arith)) (apart-buckets h′ other));
-        beyond = entry-beyond (chained m n row v) bucketsAt h (n + 1) (omega (arith, chained-length)) storeBytes (omega arith) (omega (arith, chained-length))
-            ∙ entry-beyond (withRow m n row) chainAt n v (omega (arith, row-length)) storeBytes (omega arith) (omega (arith, row-length))
-            ∙ overwrite-beyond m (rowBytes * n) row storeBytes (omega arith) room;
+        only = only-trans (overwrite-only m (rowBytes * n) row fits 0 storeBytes (omega arith) (omega arith))
+            (only-trans (entry-only (withRow m n row) chainAt n v (omega (arith, row-length)) (omega arith))
+            (entry-only (chained m n row v) bucketsAt h (n + 1) (omega (arith, chained-length)) (omega arith)));
       }
 
 -- what a bucket holds is a row's number, and 1, or 0
@@ -160,5 +160,5 @@ module _ (m m′ : List ℕ) (n : ℕ) (row : List ℕ) (v h : ℕ) (index : Ind
       bucket = bucket-after;
       chain = chain-after;
     };
-    beyond = new .beyond;
+    only = new .only;
   }

@@ -5,7 +5,8 @@ use Prim.Native.Nat.{ℕ, _+_, _≤_, _<_}
 use native.Mathlib.Omega.{arith}
 use borrow.Author.Tests.{lt-ltb, le-ltb}
 use Rattle.store.specs.declared.Found.the-variants.{Full, At}
-use Rattle.store.specs.Store.{maxRows, rowsIn, indexIn, Distinct, Indexed, Appended, rowsWith, foundIn, Kept}
+use Rattle.words.proofs.Free.{only-refl}
+use Rattle.store.specs.Store.{maxRows, storeBytes, rowsIn, indexIn, Distinct, Indexed, Appended, rowsWith, foundIn, Kept}
 use Rattle.store.proofs.Rows.{rows-length}
 use Rattle.store.proofs.Search.{index-le, distinct-snoc}
 
@@ -20,7 +21,7 @@ module _ (m : List ℕ) (n : ℕ) (row : List ℕ) (i : ℕ) (distinct : Distinc
         index = index;
         distinct = distinct;
         same = λ e. refl;
-        beyond = refl;
+        only = only-refl;
       }
 
   -- it is not there, and there is no room
@@ -33,7 +34,7 @@ module _ (m : List ℕ) (n : ℕ) (row : List ℕ) (i : ℕ) (distinct : Distinc
         index = index;
         distinct = distinct;
         same = λ e. refl;
-        beyond = refl;
+        only = only-refl;
       }
 
   -- it is not there, and is appended
@@ -47,5 +48,5 @@ module _ (m : List ℕ) (n : ℕ) (row : List ℕ) (i : ℕ) (distinct : Distinc
         distinct = rw (new .rows)
             (distinct-snoc (rowsIn m n) row distinct (omega (arith, rows-length m n, index-le (rowsIn m n) row)));
         same = λ e. absurd (omega arith);
-        beyond = new .beyond;
+        only = new .only;
       }

@@ -1,28 +1,16 @@
 -- Laws of writes into the store's memory. Assumes nothing.
 use mathlib.Core.Path.{_≡_, refl, sym, ap, _∙_}
-use mathlib.Core.Logic.{inr}
 use mathlib.Core.List.{List}
-use Prim.Native.Nat.{ℕ, zero, suc, _+_, _*_, _-_, _≤_, _<_}
+use Prim.Native.Nat.{ℕ, zero, suc, _+_, _*_, _≤_, _<_}
 use native.Mathlib.Nat.{zero-mul, zero-add, add-assoc}
 use native.Mathlib.Omega.{arith}
-use lib.ListN.{length, drop, replicate, length-drop, length-replicate, getD-replicate}
-use lib.Seq.{take-all, getD-take, getD-drop, ext-getD}
+use lib.ListN.{length, replicate, length-replicate, getD-replicate}
+use lib.Seq.{getD-take, getD-drop, ext-getD}
 use Rattle.model.specs.Bytes.{number, part, overwrite}
-use Rattle.words.proofs.Memory.{overwrite-length, overwrite-inside, overwrite-frame, part-length}
+use Rattle.words.proofs.Free.{overwrite-only}
+use Rattle.words.proofs.Memory.{overwrite-length, overwrite-inside, part-length}
 use Rattle.words.proofs.Numbers.{number-cons}
 use Rattle.store.specs.Store.{bucketsAt, storeBytes, hashes, lastOf, Cleared}
-
--- the bytes from a place on, as a part
-drop-part : (m : List ℕ) (n k : ℕ) → length m ≡ n + k → drop n m ≡ part m n k
-drop-part m n k long = sym (take-all k (drop n m) (simp length-drop (omega arith)))
-
--- the bytes behind a write are as they were
-pub overwrite-beyond : (m : List ℕ) (at : ℕ) (bs : List ℕ) (n : ℕ) → at + length bs ≤ n → n ≤ length m
-    → drop n (overwrite m at bs) ≡ drop n m
-overwrite-beyond m at bs n before fits =
-    let k = length m - n in
-    let same : length (overwrite m at bs) ≡ length m = overwrite-length m at bs (omega arith) in
-    drop-part (overwrite m at bs) n k (omega arith) ∙ overwrite-frame m at bs (omega arith) n k (inr before) ∙ sym (drop-part m n k (omega arith))
 
 number-zeros : (k : ℕ) → number (replicate k 0) ≡ 0
 unfolding number
@@ -55,5 +43,5 @@ cleared-index m m′ room e =
         bucket = λ h below. rw e (zero-entry m bucketsAt (2 * hashes) (2 * h) 2 (omega arith) (omega arith));
         chain = λ j below. absurd (omega arith);
       };
-      beyond = rw e (overwrite-beyond m bucketsAt zeros storeBytes (omega arith) room);
+      only = rw e (overwrite-only m bucketsAt zeros (omega arith) 0 storeBytes (omega arith) (omega arith));
     }

@@ -4,8 +4,8 @@ use mathlib.Core.Bool.{cond}
 use mathlib.Core.List.{List, [], _∷_, _++_, map, foldl}
 use Prim.Native.Nat.{ℕ, zero, suc, _+_, _-_, _*_, _%_, _<_, _≤_}
 use lib.Dec.{eqb, ltb}
-use lib.ListN.{length, getD, drop}
-use Rattle.model.specs.Bytes.{number, part}
+use lib.ListN.{length, getD}
+use Rattle.model.specs.Bytes.{number, part, Only}
 use Rattle.model.specs.Limits.{maxTasks, maxWindow, maxNodes}
 use Rattle.model.specs.Lists.{upFrom, sameNumbers}
 use Rattle.store.specs.declared.Found.{Found}
@@ -77,13 +77,13 @@ pub record Indexed (memory : List ℕ) (n : ℕ) : Type 0 where
 -- what clearing the index leaves
 pub record Cleared (memory memory′ : List ℕ) : Type 0 where
   pub index : Indexed memory′ 0
-  pub beyond : drop storeBytes memory′ ≡ drop storeBytes memory
+  pub only : Only 0 storeBytes memory memory′
 
 -- what appending a row leaves
 pub record Appended (memory memory′ : List ℕ) (n : ℕ) (row : List ℕ) : Type 0 where
   pub rows : rowsIn memory′ (n + 1) ≡ rowsIn memory n ++ (row ∷ [])
   pub index : Indexed memory′ (n + 1)
-  pub beyond : drop storeBytes memory′ ≡ drop storeBytes memory
+  pub only : Only 0 storeBytes memory memory′
 
 -- the rows with this one among them: appended where it is not there, unless there are the most
 unfoldable pub rowsWith : List (List ℕ) → List ℕ → List (List ℕ)
@@ -107,4 +107,4 @@ pub record Kept (memory memory′ : List ℕ) (n : ℕ) (row : List ℕ) (r : Fo
   pub index : Indexed memory′ (countAfter n r)
   pub distinct : Distinct (rowsIn memory′ (countAfter n r))
   pub same : countAfter n r ≡ n → memory′ ≡ memory
-  pub beyond : drop storeBytes memory′ ≡ drop storeBytes memory
+  pub only : Only 0 storeBytes memory memory′

@@ -22,10 +22,11 @@ use Rattle.words.proofs.Numbers.{number-bytes, bytes-length}
 use Rattle.theory.proofs.Sound.{sound-plan}
 use Rattle.theory.proofs.Schedules.{task-sound}
 use Rattle.policy.proofs.Gain.{gain-most}
-use Rattle.tracer.specs.declared.Refusal.{Refusal}
+use Rattle.refusals.specs.Numbers.{refusalNumber}
+use Rattle.refusals.specs.declared.Refusal.{Refusal}
 use Rattle.tracer.specs.declared.Answer.the-variants as Answer
 use Rattle.tracer.specs.declared.Answer.the-variants.{Refused}
-use Rattle.tracer.specs.Promise.{refusalNumber, Told}
+use Rattle.tracer.specs.Promise.{Told}
 use Rattle.tracer.proofs.Slots.{slots-length}
 use Rattle.trace_text.specs.Rows.{rowLines}
 

@@ -12,10 +12,11 @@ use Rattle.model.specs.Refusals.{shortMemory, tooManyLabels, notAdmitted}
 use Rattle.model.specs.Plan.{Plan, PlanAnswer, readPlan}
 use Rattle.model.specs.Schedule.{admits}
 use Rattle.model.specs.Trace.{TraceAnswer, TraceResult, traced, slots, traceRun, tracePlan, trace, traceBytes, resultOf, outputAfter}
-use Rattle.tracer.specs.declared.Refusal.{Refusal}
+use Rattle.refusals.specs.Numbers.{refusalNumber}
+use Rattle.refusals.specs.declared.Refusal.{Refusal}
 use Rattle.tracer.specs.declared.Answer.{Answer}
 use Rattle.tracer.specs.declared.Answer.the-variants.{Refused, Written}
-use Rattle.tracer.specs.Promise.{refusalNumber, Told}
+use Rattle.tracer.specs.Promise.{Told}
 use Rattle.tracer.proofs.Slots.{slots-length, trace-length}
 
 -- what is told of an answer is told of any that is equal

@@ -3,20 +3,10 @@ use mathlib.Core.Path.{_≡_}
 use mathlib.Core.List.{List}
 use Prim.Native.Nat.{ℕ}
 use lib.ListN.{length}
-use Rattle.model.specs.Refusals.{shortMemory, tooManyLabels, notAdmitted}
 use Rattle.model.specs.Trace.{TraceAnswer, TraceResult, trace, resultOf, outputAfter}
-use Rattle.plan.specs.View.{faultNumber}
-use Rattle.tracer.specs.declared.Refusal.{Refusal}
-use Rattle.tracer.specs.declared.Refusal.the-variants.{ShortMemory, Plan, TooManyLabels, NotAdmitted}
+use Rattle.refusals.specs.Numbers.{refusalNumber}
 use Rattle.tracer.specs.declared.Answer.{Answer}
 use Rattle.tracer.specs.declared.Answer.the-variants.{Refused, Written}
-
--- the number of each refusal
-abbrev pub refusalNumber : Refusal → ℕ
-refusalNumber ShortMemory = shortMemory
-refusalNumber (Plan f) = faultNumber f
-refusalNumber TooManyLabels = tooManyLabels
-refusalNumber NotAdmitted = notAdmitted
 
 abbrev pub answerOf : Answer → TraceResult
 answerOf (Refused r) = TraceResult.refused (refusalNumber r)

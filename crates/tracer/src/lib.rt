@@ -1,8 +1,8 @@
 // The trace call: what a policy does, slot by slot.
-use plan::Fault;
 use plan::Outcome;
 use plan::Plan;
 use policy::Rules;
+use refusals::Refusal;
 ghost use mathlib.Core.Path.{_≡_};
 ghost use mathlib.Core.List.{[], _∷_};
 ghost use Prim.Native.Nat.{_+_, _*_, _≤_};
@@ -14,35 +14,12 @@ ghost use Rattle.model.specs.Schedule.{admits};
 ghost use Rattle.model.specs.Trace as model-trace;
 ghost use Rattle.plan.specs.View.{arcsIn, planOf, Sized, StatesFit};
 ghost use Rattle.policy.specs.View.{tasksIn, Ruled};
-ghost use Rattle.tracer.specs.Promise.{refusalNumber, Told, Traces};
+ghost use Rattle.tracer.specs.Promise.{Told, Traces};
 
 // The most that a trace takes, and the most labels.
 pub const TRACE_ROOM: usize = limits::TRACE_ROOM;
 
 pub const MAX_LABELS: usize = limits::MAX_LABELS;
-
-// Why no trace is written: the output is too short, the plan has a fault, there are too many labels,
-// or one of them is not admitted.
-pub enum Refusal {
-    ShortMemory,
-    Plan(Fault),
-    TooManyLabels,
-    NotAdmitted,
-}
-
-impl Refusal {
-    // The number of the refusal.
-    pub fn number(self) -> u64
-        ensures { λ r. ⌜ r ≡ refusalNumber self ⌝ }
-    {
-        match self {
-            Refusal::ShortMemory => 11,
-            Refusal::Plan(f) => f.number(),
-            Refusal::TooManyLabels => 12,
-            Refusal::NotAdmitted => 13,
-        }
-    }
-}
 
 // A trace that is written has so many bytes.
 pub enum Answer {

@@ -1,4 +1,5 @@
 pub mod Complement
+pub mod Free
 pub mod Memory
 pub mod Numbers
 pub mod Signed

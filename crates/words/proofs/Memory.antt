@@ -1,5 +1,5 @@
 -- Laws of a write into memory: what stands where it was written, and that everything else stands as it did. Assumes nothing.
-use mathlib.Core.Path.{_≡_, sym, _∙_}
+use mathlib.Core.Path.{_≡_, sym, _∙_, ap}
 use mathlib.Core.Logic.{_⊎_, ⊎-elim, ⊎-map}
 use mathlib.Core.List.{List, [], _∷_, _++_, append-assoc, append-nil}
 use Prim.Native.Nat.{ℕ, suc, _+_, _-_, _≤_, _<_}
@@ -102,3 +102,10 @@ pub part-more : (m : List ℕ) (at k : ℕ) → at + k < length m → part m at 
 part-more m at k fits =
     let h : k < length (drop at m) = simp length-drop (omega arith) in
     rw (add-one, take-suc (drop at m) k 0 h, getD-drop)
+
+-- what stands behind a first piece of n bytes
+pub part-skip : (xs ys : List ℕ) (n i k : ℕ) → length xs ≡ n → part (xs ++ ys) (n + i) k ≡ part ys i k
+part-skip xs ys n i k e = ap (take k) (ap (λ (j : ℕ). drop (j + i) (xs ++ ys)) (sym e) ∙ drop-append-add xs ys i)
+
+pub getD-skip : (xs ys : List ℕ) (n i : ℕ) → length xs ≡ n → getD (xs ++ ys) (n + i) 0 ≡ getD ys i 0
+getD-skip xs ys n i e = ap (λ (j : ℕ). getD (xs ++ ys) (j + i) 0) (sym e) ∙ getD-append-add xs ys i 0

@@ -23,7 +23,7 @@ use Rattle.policy.specs.View.{tasksIn}
 use Rattle.policy.specs.declared.Rules.{Rules}
 use Rattle.discovery.proofs.Held.{held-count}
 use Rattle.potentials.proofs.Numbers.{nodes-few}
-use Rattle.links.specs.Links.{linksEnd, stepIn, stepsIn, stateIn}
+use Rattle.links.specs.Links.{linksEnd, takenIn, firstSteps, stateIn}
 use Rattle.distances.specs.Distances.{SearchIn}
 use Rattle.circuit.specs.Circuit.{Turns, Turning}
 use Rattle.circuit.proofs.Steps.{steps-length}
@@ -36,11 +36,11 @@ use Rattle.writer.proofs.Bytes.{potentialsEnd, cycleEnd, fronted, bare-
 
 module _ {P : Plan} (m : List ℕ) where
   -- an edge for each step
-  pub edges-count : (k : ℕ) {v : ℕ} {es : List Edge} → Along P v (stepsIn m k) v es → length es ≡ k
+  pub edges-count : (k : ℕ) {v : ℕ} {es : List Edge} → Along P v (firstSteps m k) v es → length es ≡ k
   edges-count k a = along-length a ∙ steps-length m k
 
   -- they start at the first one's node
-  pub first-node : (k : ℕ) {v : ℕ} {es : List Edge} → 0 < k → Along P v (stepsIn m k) v es → v ≡ stepIn m 0 .node
+  pub first-node : (k : ℕ) {v : ℕ} {es : List Edge} → 0 < k → Along P v (firstSteps m k) v es → v ≡ takenIn m 0 .node
   first-node zero h a = absurd (not-suc-le-zero h)
   first-node (suc k) h a = along-first a
 

@@ -13,7 +13,7 @@ use Rattle.model.specs.Solve.{Solved}
 use Rattle.theory.specs.Lightest.{Along, stepOf}
 use Rattle.certificate.specs.View.{potentialCommand, potentialWidth, nodeBytes}
 use Rattle.policy.specs.declared.Rules.{Rules}
-use Rattle.links.specs.Links.{stateIn, stepsIn}
+use Rattle.links.specs.Links.{stateIn, firstSteps}
 use Rattle.circuit.specs.Circuit.{stepsBytes}
 use Rattle.solution.specs.declared.Solution.{Solution}
 use Rattle.solution.specs.Solution.{Solvable}
@@ -33,7 +33,7 @@ potentialsBytes zs = flatMap (λ z. potentialCommand ∷ bytes potentialWidth (c
 -- the node v and best edges along the first k steps are written from a place on
 pub record WritesCycle (P : Plan) (m : List ℕ) (k v : ℕ) (before : List ℕ) (at : ℕ) (after : List ℕ) : Type 0 where
   pub edges : List Edge
-  pub along : Along P v (stepsIn m k) v edges
+  pub along : Along P v (firstSteps m k) v edges
   pub bytes : after ≡ overwrite before at (nodeBytes v ++ stepsBytes (map stepOf edges))
 
 -- ---- the certificate

@@ -4,14 +4,14 @@ use solution::Solution;
 ghost use mathlib.Core.Path.{_≡_};
 ghost use mathlib.Core.List.{List};
 ghost use Prim.Native.Nat.{ℕ, _+_, _*_, _≤_, _<_};
-ghost use lib.ListN.{length, drop};
+ghost use lib.ListN.{length};
 ghost use Rattle.model.specs.Bytes.{overwrite};
 ghost use Rattle.model.specs.Graph.{Edge};
 ghost use Rattle.model.specs.Limits.{maxNodes, certificateRoom};
 ghost use Rattle.model.specs.Plan.{Plan};
 ghost use Rattle.certificate.specs.View.{headSize, potentialSize, cycleSize, stepSize};
 ghost use Rattle.policy.specs.View.{Ruled};
-ghost use Rattle.graph.specs.Outcomes.{noteRoom};
+ghost use Rattle.graph.specs.Outcomes.{noteRoom, NotesFree};
 ghost use Rattle.links.specs.Links.{linksEnd};
 ghost use Rattle.circuit.specs.Circuit.{Turns, Turning};
 ghost use Rattle.solution.specs.Solution.{Solving};
@@ -42,7 +42,7 @@ fn write_cycle(
     requires { ⌜ Ruled rules × Turning rules (now m) k × (0 < k) × (noteRoom ≤ length (now notes)) × (at + cycleSize + stepSize * k ≤ length (now out)) ⌝ }
     ensures { λ r. ⌜ r ≡ at + cycleSize + stepSize * k ⌝ }
     ensures { λ _. ⌜ ((P : Plan) (next : List ℕ) (n v : ℕ) (es : List Edge) → Turns P rules next (now (m .entry)) n k v es → WritesCycle P (now (m .entry)) k v (now (out .entry)) at (now (out .exit))) ⌝ }
-    ensures { λ _. ⌜ drop noteRoom (now (notes .exit)) ≡ drop noteRoom (now (notes .entry)) ⌝ }
+    ensures { λ _. ⌜ NotesFree (now (notes .entry)) (now (notes .exit)) ⌝ }
 {
     let first = links::step_at(m, 0);
     certificate::write_cycle_head(out, at, first.node as u16);
@@ -62,7 +62,7 @@ pub fn write(
 ) -> usize
     requires { ⌜ Ruled rules × Writable rules (now m) n solution × (linksEnd ≤ length (now m)) × (noteRoom ≤ length (now notes)) × (certificateRoom ≤ length (now out)) ⌝ }
     ensures { λ r. ⌜ ((P : Plan) (next : List ℕ) → Solving P rules next (now (m .entry)) n solution → Written P (now (out .entry)) (now (out .exit)) r) ⌝ }
-    ensures { λ _. ⌜ drop noteRoom (now (notes .exit)) ≡ drop noteRoom (now (notes .entry)) ⌝ }
+    ensures { λ _. ⌜ NotesFree (now (notes .entry)) (now (notes .exit)) ⌝ }
 {
     let p = solution.p;
     let q = solution.q;

@@ -26,7 +26,7 @@ returns-2 c =
     let call = c .before .before .before .before .before .before in
     let start = call .before .before .before .before .before .before in
     let a = start .args in
-    enough (a .plan .now) (a .certificate .now) (a .work .now) _ _ (call .before .before .if1 .left) (call .check-bytes .ensures)
+    enough (a .plan .now) (a .certificate .now) (a .work .now) _ _ (call .before .before .if1 .left) (call .check-bytes .ensures .0)
     (c .before .before .clear .ensures ∙ ap (λ (n : ℕ). replicate n 0) (call .check-bytes .kept .1 .1 .0))
 
 pub check-spec : {M : Type 1} → statement M

@@ -4,6 +4,7 @@ use mathlib.Core.List.{List}
 use mathlib.Core.Option.{Option}
 use Prim.Native.Nat.{ℕ}
 use borrow.Author.Needs.{needs}
+use Rattle.words.proofs.Free.{only-refl}
 use Rattle.model.specs.Certificate.{Certificate}
 use Rattle.model.specs.Check.{checkRead}
 use Rattle.certificate.specs.View.{formOf}
@@ -34,7 +35,7 @@ returns : tie.Need-returns
 returns c =
     let r = c .before .before in (
       λ P p h. sym (ap (checkRead P) (read-as (r .before .before .before .before .args .s .now) (r .read .ensures) (c .enum-told .given .1))),
-      refl,
+      only-refl,
     )
 
 same-length : tie.Need-same-length

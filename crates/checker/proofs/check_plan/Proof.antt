@@ -60,7 +60,7 @@ returns c =
     let start = rules .before .before .before in
     let p = start .args .plan in
     let of = planned-of p (rules .rules-of .result) (start .pre .1) (rules .rules-of .ensures) in
-    large (planOf p) (length (nodes (planOf p))) (start .args .s .now) (sym (ap sizeOf (c .enum-told .given .1)) ∙ found .discover .ensures .0 .answer (planOf p) of)
+    (large (planOf p) (length (nodes (planOf p))) (start .args .s .now) (sym (ap sizeOf (c .enum-told .given .1)) ∙ found .discover .ensures .0 .answer (planOf p) of), found .discover .ensures .0 .only)
 
 same-length-2 : tie.Need-same-length-2
 same-length-2 c = search needs
@@ -73,9 +73,11 @@ returns-2 c =
     let start = rules .before .before .before in
     let p = start .args .plan in
     let of = planned-of p (rules .rules-of .result) (start .pre .1) (rules .rules-of .ensures) in
-    let count = c .before .before .before .before .before .before .n .given .1 in
-    call .check-certificate .ensures .0 (planOf p) of (found .discover .ensures .0 .held _ count (planOf p) of)
-    ∙ small (planOf p) (length (nodes (planOf p))) _ (start .args .s .now) (sym (ap sizeOf count) ∙ found .discover .ensures .0 .answer (planOf p) of)
+    let count = c .before .before .before .before .before .before .n .given .1 in (
+      call .check-certificate .ensures .0 (planOf p) of (found .discover .ensures .0 .held _ count (planOf p) of)
+          ∙ small (planOf p) (length (nodes (planOf p))) _ (start .args .s .now) (sym (ap sizeOf count) ∙ found .discover .ensures .0 .answer (planOf p) of),
+      found .discover .ensures .0 .only,
+    )
 
 pub check-plan-spec : {M : Type 1} → statement M
 check-plan-spec =

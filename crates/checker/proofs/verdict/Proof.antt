@@ -5,6 +5,7 @@ use mathlib.Core.List.{List}
 use Prim.Native.Nat.{ℕ}
 use borrow.Author.Needs.{needs}
 use borrow.Author.Tests.{not-true, not-false}
+use Rattle.words.proofs.Free.{only-refl}
 use Rattle.model.specs.Check.{share, withinLimit, fractionOk}
 use Rattle.model.specs.Graph.{nodes}
 use Rattle.model.specs.Lists.{all}
@@ -48,7 +49,7 @@ returns : tie.Need-returns
 returns c =
     let a = c .before .before .before .before .before .args in (
       λ P p h. bad-fraction P (certificateOf (a .s .now) (a .parts)) (sym (c .before .fraction-ok .ensures) ∙ not-true _ (c .if1 .taken)),
-      refl,
+      only-refl,
     )
 
 returns-2 : tie.Need-returns-2
@@ -60,7 +61,7 @@ returns-2 c =
     let fraction = sym (c .before .before .before .fraction-ok .ensures) ∙ not-false _ (c .before .before .if1 .left) in
     let size = items-length (potentialIn bs) headSize potentialSize (a .parts .count) in (
       λ P p h. bad-count P z fraction (λ e. c .if2 .taken (sym size ∙ e ∙ held-count (tasksIn (a .rules)) (a .m .now) (a .n) (nodes P) (h .nodes))),
-      refl,
+      only-refl,
     )
 
 within-limits-requires : tie.Need-within-limits-requires
@@ -77,7 +78,7 @@ returns-3 c =
     let count : a .parts .count ≡ a .n = c .before .before .if2 .left in (
       λ P p h. bad-limit P z fraction (size ∙ count ∙ sym (held-count (tasksIn (a .rules)) (a .m .now) (a .n) (nodes P) (h .nodes)))
           (sym (c .before .within-limits .ensures) ∙ not-true _ (c .if3 .taken)),
-      refl,
+      only-refl,
     )
 
 edges-hold-requires : tie.Need-edges-hold-requires

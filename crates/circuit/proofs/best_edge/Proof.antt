@@ -81,7 +81,7 @@ returns c =
             ideal = omega (arith, c .before .before .before .best-score .ensures count, b .ideal);
             masks = b .masks ∙ sym (c .before .best-masks .ensures count);
           },
-      call .reach .ensures .rest,
+      call .reach .ensures .only,
     )
 
 pub best-edge-spec : {M : Type 1} → statement M

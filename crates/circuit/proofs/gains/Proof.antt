@@ -4,11 +4,12 @@ use mathlib.Core.List.{List}
 use Prim.Native.Nat.{ℕ, _+_, _-_, _*_, _≤_}
 use native.Mathlib.Omega.{arith}
 use lib.ListN.{length, drop}
+use Rattle.words.proofs.Free.{only-refl, only-trans}
 use Rattle.model.specs.Graph.{Edge}
 use Rattle.model.specs.Limits.{maxTasks, maxValue}
 use Rattle.model.specs.Plan.{Plan}
 use Rattle.theory.proofs.Sound.{sound-plan}
-use Rattle.graph.specs.Outcomes.{noteRoom}
+use Rattle.graph.specs.Outcomes.{NotesFree}
 use Rattle.circuit.specs.Circuit.{Turns}
 use Rattle.circuit.proofs.Steps.{Summed, summed-fits, summed-start, summed-more, summed-all}
 use Rattle.circuit.proofs.gains.Statement.{statement}
@@ -18,13 +19,13 @@ abbrev Inv-loop : tie.InvT-loop
 Inv-loop rules k notes₀ m kept₀ ideal₀ i₀ notes kept ideal i =
     (i ≤ k) × (length notes ≡ length notes₀)
     × ((P : Plan) (next : List ℕ) (n v : ℕ) (es : List Edge) → Turns P rules next m n k v es → Summed P m k v i kept ideal)
-    × (drop noteRoom notes ≡ drop noteRoom notes₀)
+    × NotesFree notes₀ notes
 
 abbrev μ-loop : tie.MeasureT-loop
 μ-loop rules k notes₀ m kept₀ ideal₀ i₀ notes kept ideal i = k - i
 
 loop-holds : tie.Need-loop-holds Inv-loop μ-loop
-loop-holds c = (omega arith, refl, λ P next n v es t. summed-start (t .along), refl)
+loop-holds c = (omega arith, refl, λ P next n v es t. summed-start (t .along), only-refl)
 
 step-edge-requires : tie.Need-step-edge-requires Inv-loop μ-loop
 step-edge-requires c κs =
@@ -79,7 +80,7 @@ loop-again c =
       omega (arith, call .before .before .loop-test .taken),
       call .step-edge .kept .1 .1 .1 .0 ∙ l .inv .1,
       turn call,
-      call .step-edge .ensures .1 ∙ l .inv .3,
+      only-trans (l .inv .3) (call .step-edge .ensures .1),
     )
 
 same-length : tie.Need-same-length Inv-loop μ-loop

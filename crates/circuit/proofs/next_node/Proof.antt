@@ -5,15 +5,15 @@ use mathlib.Core.List.{List}
 use Prim.Native.Nat.{ℕ, _+_}
 use borrow.Author.Needs.{needs}
 use borrow.Author.Tests.{eq-eqb, ne-eqb}
-use Rattle.links.specs.Links.{stepIn}
+use Rattle.links.specs.Links.{takenIn}
 use Rattle.links.specs.declared.Taken.{Taken}
 use Rattle.circuit.proofs.next_node.Statement.{statement}
 use Rattle.circuit.proofs.next_node.Tie as tie
 
 -- by the test
 by-test : (m : List ℕ) (i : ℕ) {b b′ : Bool} → b ≡ b′ →
-    cond b (stepIn m 0 .node) (stepIn m (i + 1) .node) ≡ cond b′ (stepIn m 0 .node) (stepIn m (i + 1) .node)
-by-test m i e = ap (λ (b : Bool). cond b (stepIn m 0 .node) (stepIn m (i + 1) .node)) e
+    cond b (takenIn m 0 .node) (takenIn m (i + 1) .node) ≡ cond b′ (takenIn m 0 .node) (takenIn m (i + 1) .node)
+by-test m i e = ap (λ (b : Bool). cond b (takenIn m 0 .node) (takenIn m (i + 1) .node)) e
 
 add-if1 : tie.Need-add-if1
 add-if1 c = search needs

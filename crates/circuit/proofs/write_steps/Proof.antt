@@ -4,9 +4,10 @@ use mathlib.Core.List.{List}
 use Prim.Native.Nat.{ℕ, _+_, _-_, _≤_}
 use native.Mathlib.Omega.{arith}
 use lib.ListN.{length, drop}
+use Rattle.words.proofs.Free.{only-refl, only-trans}
 use Rattle.model.specs.Graph.{Edge}
 use Rattle.model.specs.Plan.{Plan}
-use Rattle.graph.specs.Outcomes.{noteRoom}
+use Rattle.graph.specs.Outcomes.{NotesFree}
 use Rattle.circuit.specs.Circuit.{Turns}
 use Rattle.circuit.proofs.Steps.{Written, written-start, written-more, written-all}
 use Rattle.circuit.proofs.write_steps.Statement.{statement}
@@ -16,13 +17,13 @@ abbrev Inv-loop : tie.InvT-loop
 Inv-loop rules k notes₀ m out₀ at i₀ notes out i =
     (i ≤ k) × (length notes ≡ length notes₀) × (length out ≡ length out₀)
     × ((P : Plan) (next : List ℕ) (n v : ℕ) (es : List Edge) → Turns P rules next m n k v es → Written P m k v i out₀ at out)
-    × (drop noteRoom notes ≡ drop noteRoom notes₀)
+    × NotesFree notes₀ notes
 
 abbrev μ-loop : tie.MeasureT-loop
 μ-loop rules k notes₀ m out₀ at i₀ notes out i = k - i
 
 loop-holds : tie.Need-loop-holds Inv-loop μ-loop
-loop-holds c = (omega arith, refl, refl, λ P next n v es t. written-start (t .along), refl)
+loop-holds c = (omega arith, refl, refl, λ P next n v es t. written-start (t .along), only-refl)
 
 step-edge-requires : tie.Need-step-edge-requires Inv-loop μ-loop
 step-edge-requires c κs =
@@ -70,7 +71,7 @@ loop-again c =
       λ P next n v es t.
           subst (Written P (a .m .now) (a .k) v (l .i + 1) (a .out .now) (a .at)) (sym (write .ensures))
           (written-more (t .along) more (start .pre .3) (l .inv .3 P next n v es t) (call .step-edge .ensures .0 P next n v es t)),
-      call .step-edge .ensures .1 ∙ l .inv .4,
+      only-trans (l .inv .4) (call .step-edge .ensures .1),
     )
 
 same-length : tie.Need-same-length Inv-loop μ-loop

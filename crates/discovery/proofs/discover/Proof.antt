@@ -2,6 +2,7 @@
 use mathlib.Core.Path.{_∙_}
 use mathlib.Core.List.{[]}
 use borrow.Author.Needs.{needs}
+use Rattle.words.proofs.Free.{only-trans}
 use Rattle.discovery.proofs.Answer.{none-stored, begun, discovers-many, discovers-nodes}
 use Rattle.discovery.proofs.discover.Statement.{statement}
 use Rattle.discovery.proofs.discover.Tie as tie
@@ -49,7 +50,7 @@ returns c =
     begun (a .rules) (named .start .result) (named .start .ensures) (cleared .clear-index .last .0) (added .add-node .last .0) (added .add-node .result)
     (cleared .clear-index .ensures .index) (added .add-node .ensures) in (
       discovers-many (a .rules) (a .next .now) (a .m .now) (added .add-node .last .0) (call .explore-all .last .1 .1 .1 .0) (call .explore-all .result) (start .pre .0 .1)
-          (begin .1 ∙ cleared .clear-index .ensures .beyond) (call .explore-all .ensures .0) (c .if1 .taken),
+          (only-trans (cleared .clear-index .ensures .only) (begin .1)) (call .explore-all .ensures .0) (c .if1 .taken),
       call .explore-all .ensures .1,
     )
 
@@ -71,7 +72,7 @@ returns-2 c =
     begun (a .rules) (named .start .result) (named .start .ensures) (cleared .clear-index .last .0) (added .add-node .last .0) (added .add-node .result)
     (cleared .clear-index .ensures .index) (added .add-node .ensures) in (
       discovers-nodes (a .rules) (a .next .now) (a .m .now) (added .add-node .last .0) (call .explore-all .last .1 .1 .1 .0) (call .explore-all .result) (start .pre .0 .1)
-          (begin .1 ∙ cleared .clear-index .ensures .beyond) (call .explore-all .ensures .0) (c .if1 .left),
+          (only-trans (cleared .clear-index .ensures .only) (begin .1)) (call .explore-all .ensures .0) (c .if1 .left),
       call .explore-all .ensures .1,
     )
 

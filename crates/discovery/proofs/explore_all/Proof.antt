@@ -4,15 +4,16 @@ use mathlib.Core.List.{List}
 use Prim.Native.Nat.{ℕ, suc, _-_, _*_, _≤_}
 use native.Mathlib.Numerals.{add-one}
 use native.Mathlib.Omega.{arith}
-use lib.ListN.{length, drop}
+use lib.ListN.{length}
 use borrow.Author.Needs.{needs}
+use Rattle.words.proofs.Free.{only-refl, only-trans}
 use Rattle.model.specs.Graph as model
 use Rattle.model.specs.Graph.{explored}
 use Rattle.model.specs.Limits.{maxNodes}
 use Rattle.model.specs.Plan.{Plan}
 use Rattle.words.proofs.Memory.{part-length}
 use Rattle.policy.specs.View.{tasksIn}
-use Rattle.graph.specs.Outcomes.{noteRoom}
+use Rattle.graph.specs.Outcomes.{NotesFree}
 use Rattle.graph.specs.View.{Planned}
 use Rattle.store.specs.Store.{rowBytes}
 use Rattle.discovery.specs.Discovery.{nodeIn, Known}
@@ -25,7 +26,7 @@ abbrev Inv-loop : tie.InvT-loop
 Inv-loop next rules notes₀ m₀ n known₀ k₀ notes m known k =
     (k ≤ maxNodes) × (known ≤ maxNodes) × (length notes ≡ length notes₀) × (length m ≡ length m₀)
     × ((P : Plan) → Planned P rules next → Known (tasksIn rules) (explored P k) m₀ m known)
-    × (drop noteRoom notes ≡ drop noteRoom notes₀)
+    × NotesFree notes₀ notes
 
 abbrev μ-loop : tie.MeasureT-loop
 μ-loop next rules notes₀ m₀ n known₀ k₀ notes m known k = maxNodes - k
@@ -42,7 +43,7 @@ loop-holds c =
       refl,
       λ P p. subst (λ (ns : List model.Node). Known (tasksIn (a .rules)) ns (a .m .now) (a .m .now) (a .n)) (b .nodes)
           (known-none (tasksIn (a .rules)) (a .m .now) (a .n) (b .held)),
-      refl,
+      only-refl,
     )
 
 row-requires : tie.Need-row-requires Inv-loop μ-loop
@@ -96,7 +97,7 @@ returns c =
     next-turn (a .rules) (start .pre .0) (a .next .now) (a .m .now) (l .m) (l .known) (l .k) (l .inv .1) (omega arith) (l .inv .4)
     (named .node-of .result) (named .node-of .ensures ∙ ap nodeIn (named .before .row .ensures)) after (call .explore-node .result) (call .explore-node .ensures .0) in (
       λ P p. whole-many P (tasksIn (a .rules)) (a .m .now) after (call .explore-node .result) (suc (l .k)) (omega arith) (then P p) (c .if1 .taken),
-      call .explore-node .ensures .1 ∙ l .inv .5,
+      only-trans (l .inv .5) (call .explore-node .ensures .1),
     )
 
 add-k : tie.Need-add-k Inv-loop μ-loop
@@ -121,7 +122,7 @@ loop-again c =
       call .explore-node .kept .1 .1 .1 .0 ∙ l .inv .2,
       call .explore-node .kept .1 .1 .1 .1 .0 ∙ l .inv .3,
       λ P p. subst (λ (i : ℕ). Known (tasksIn (a .rules)) (explored P i) (a .m .now) after (call .explore-node .result)) (sym (add-one (l .k))) (then P p),
-      call .explore-node .ensures .1 ∙ l .inv .5,
+      only-trans (l .inv .5) (call .explore-node .ensures .1),
     )
 
 same-length-3 : tie.Need-same-length-3 Inv-loop μ-loop

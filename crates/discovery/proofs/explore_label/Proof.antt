@@ -36,7 +36,7 @@ returns c =
           (added .add-outcomes .last .0) (added .add-outcomes .result)
           (label-order (tasksIn (a .rules)) (start .pre .0 .0 .tasks) (a .label) (a .node .taken) low after (d .count) (noted .notes))
           (noted .slot) (start .pre .1 .0) (added .add-outcomes .ensures),
-      noted .rest,
+      noted .only,
     )
 
 pub explore-label-spec : {M : Type 1} → statement M

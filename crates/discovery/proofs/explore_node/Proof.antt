@@ -2,11 +2,12 @@
 use mathlib.Core.Path.{_≡_, refl, subst, _∙_}
 use Prim.Native.Nat.{ℕ, _+_, _-_, _^_, _≤_}
 use native.Mathlib.Omega.{arith}
-use lib.ListN.{length, drop}
+use lib.ListN.{length}
 use borrow.Author.Needs.{needs}
+use Rattle.words.proofs.Free.{only-refl, only-trans}
 use Rattle.model.specs.Limits.{maxNodes}
 use Rattle.policy.specs.View.{tasksIn}
-use Rattle.graph.specs.Outcomes.{noteRoom}
+use Rattle.graph.specs.Outcomes.{NotesFree}
 use Rattle.graph.specs.View.{nodeOf}
 use Rattle.discovery.specs.Discovery.{Explored, edgesBelow}
 use Rattle.discovery.proofs.Growing.{explored-none, explored-held, label-more, label-many, labels-shifted}
@@ -16,7 +17,7 @@ use Rattle.discovery.proofs.explore_node.Tie as tie
 abbrev Inv-loop : tie.InvT-loop
 Inv-loop next rules node notes₀ m₀ n labels known₀ label₀ notes m known label =
     (label ≤ labels) × (known ≤ maxNodes) × (length notes ≡ length notes₀) × (length m ≡ length m₀)
-    × Explored rules (edgesBelow next (nodeOf (tasksIn rules) node) label) m₀ n m known × (drop noteRoom notes ≡ drop noteRoom notes₀)
+    × Explored rules (edgesBelow next (nodeOf (tasksIn rules) node) label) m₀ n m known × NotesFree notes₀ notes
 
 abbrev μ-loop : tie.MeasureT-loop
 μ-loop next rules node notes₀ m₀ n labels known₀ label₀ notes m known label = labels - label
@@ -35,7 +36,7 @@ loop-holds : tie.Need-loop-holds Inv-loop μ-loop
 loop-holds c =
     let start = c .before .before .before in
     let a = start .args in
-    (omega arith, start .pre .1 .0 .index .few, refl, refl, explored-none (a .rules) (a .m .now) (a .n) (start .pre .1 .0), refl)
+    (omega arith, start .pre .1 .0 .index .few, refl, refl, explored-none (a .rules) (a .m .now) (a .n) (start .pre .1 .0), only-refl)
 
 follow-label-requires : tie.Need-follow-label-requires Inv-loop μ-loop
 follow-label-requires c κs =
@@ -72,7 +73,7 @@ returns c =
       label-many (a .rules) (a .next .now) u (a .m .now) (a .n) (l .label + 1) (2 ^ a .rules .count) after (call .follow-label .result)
           (omega (arith, all)) (c .if1 .taken)
           (label-more (a .rules) (a .next .now) u (a .m .now) (a .n) (l .label) (l .m) (l .known) (l .inv .1) (l .inv .4) after (call .follow-label .result) (call .follow-label .ensures .0)),
-      call .follow-label .ensures .1 ∙ l .inv .5,
+      only-trans (l .inv .5) (call .follow-label .ensures .1),
     )
 
 add-label : tie.Need-add-label Inv-loop μ-loop
@@ -94,7 +95,7 @@ loop-again c =
       call .follow-label .kept .1 .1 .1 .1 .0 ∙ l .inv .2,
       call .follow-label .kept .1 .1 .1 .1 .1 .0 ∙ l .inv .3,
       label-more (a .rules) (a .next .now) u (a .m .now) (a .n) (l .label) (l .m) (l .known) (l .inv .1) (l .inv .4) after (call .follow-label .result) (call .follow-label .ensures .0),
-      call .follow-label .ensures .1 ∙ l .inv .5,
+      only-trans (l .inv .5) (call .follow-label .ensures .1),
     )
 
 same-length-3 : tie.Need-same-length-3 Inv-loop μ-loop

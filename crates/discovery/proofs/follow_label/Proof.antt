@@ -5,6 +5,7 @@ use mathlib.Core.Option.{some}
 use Prim.Native.Nat.{_-_, _<_}
 use native.Mathlib.Omega.{arith}
 use borrow.Author.Needs.{needs}
+use Rattle.words.proofs.Free.{only-refl}
 use Rattle.model.specs.Graph.{edgesTo}
 use Rattle.plan.specs.View.{nextOf}
 use Rattle.plan.proofs.View.{next-some}
@@ -26,7 +27,7 @@ returns c =
       explored-same (a .rules) (λ P. []) (edgesBy (a .next .now) u (a .label)) (a .m .now) (a .n) (a .m .now) (a .n)
           (λ P. ap (edgesTo P u (a .label)) (ap nextOf (sym (c .if1 .taken)) ∙ c .before .next-state .ensures))
           (explored-none (a .rules) (a .m .now) (a .n) (start .pre .1 .0)),
-      refl,
+      only-refl,
     )
 
 sub-explore-label : tie.Need-sub-explore-label

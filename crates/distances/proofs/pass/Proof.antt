@@ -3,8 +3,9 @@ use mathlib.Core.Path.{_≡_, refl, _∙_}
 use Prim.Native.Nat.{_-_, _<_, _≤_}
 use native.Mathlib.Omega.{arith}
 use lib.ListN.{length, drop}
+use Rattle.words.proofs.Free.{only-refl, only-trans}
 use Rattle.model.specs.Plan.{Plan}
-use Rattle.graph.specs.Outcomes.{noteRoom}
+use Rattle.graph.specs.Outcomes.{NotesFree}
 use Rattle.distances.specs.Distances.{Sought}
 use Rattle.distances.proofs.Advances.{advance-circuit, sought-after}
 use Rattle.distances.proofs.Nodes.{TriedBelow, tried-none, tried-more}
@@ -15,13 +16,13 @@ abbrev Inv-loop : tie.InvT-loop
 Inv-loop claim next rules notes₀ m₀ n moved₀ u₀ notes m moved u =
     (u ≤ n) × (length notes ≡ length notes₀) × (length m ≡ length m₀)
     × ((P : Plan) → Sought P rules next m₀ claim → TriedBelow P claim u m₀ m moved)
-    × (drop noteRoom notes ≡ drop noteRoom notes₀)
+    × NotesFree notes₀ notes
 
 abbrev μ-loop : tie.MeasureT-loop
 μ-loop claim next rules notes₀ m₀ n moved₀ u₀ notes m moved u = n - u
 
 loop-holds : tie.Need-loop-holds Inv-loop μ-loop
-loop-holds c = (omega arith, refl, refl, λ P s. tried-none (s .search), refl)
+loop-holds c = (omega arith, refl, refl, λ P s. tried-none (s .search), only-refl)
 
 relax-node-requires : tie.Need-relax-node-requires Inv-loop μ-loop
 relax-node-requires c κs =
@@ -55,7 +56,7 @@ returns c =
             advance = advance-circuit (b .advance) refl (call .relax-node .ensures .0 P (sought-after (b .advance) refl s) .advance) found;
             quiet = λ e f. absurd (omega (arith, found));
           },
-      call .relax-node .ensures .1 ∙ l .inv .4,
+      only-trans (l .inv .4) (call .relax-node .ensures .1),
     )
 
 add-u : tie.Need-add-u Inv-loop μ-loop
@@ -77,7 +78,7 @@ loop-again c =
       λ P s.
           let b = l .inv .3 P s in
           tried-more (head .loop-test .taken) b (call .relax-node .ensures .0 P (sought-after (b .advance) refl s)) (c .before .if1 .left),
-      call .relax-node .ensures .1 ∙ l .inv .4,
+      only-trans (l .inv .4) (call .relax-node .ensures .1),
     )
 
 same-length-3 : tie.Need-same-length-3 Inv-loop μ-loop

@@ -3,6 +3,7 @@ use mathlib.Core.Path.{refl}
 use Prim.Native.Nat.{_<_}
 use native.Mathlib.Omega.{arith}
 use borrow.Author.Needs.{needs}
+use Rattle.words.proofs.Free.{only-refl}
 use Rattle.model.specs.Masks.{maskCount}
 use Rattle.model.specs.Plan.{Plan}
 use Rattle.policy.specs.View.{tasksIn}
@@ -27,7 +28,7 @@ leads : (c : tie.After-next-state) (P : Plan) →
 leads c P t = leads-of t (c .before .before .before .pre .2) (c .next-state .ensures)
 
 returns : tie.Need-returns
-returns c = (λ P t. label-none t (leads (c .before) P t) (c .if1 .taken), refl)
+returns c = (λ P t. label-none t (leads (c .before) P t) (c .if1 .taken), only-refl)
 
 reach-requires : tie.Need-reach-requires
 reach-requires c κs =
@@ -70,7 +71,7 @@ returns-2 c =
       λ P t.
           let e = expanded (c .before .before .before .before .before .before .before .before .before .before) P t in
           label-done t e (c .before .before .relax-outcomes .ensures P (label-offers t e (s .pre .3))),
-      c .before .before .before .before .before .before .before .before .before .before .reach .ensures .rest,
+      c .before .before .before .before .before .before .before .before .before .before .reach .ensures .only,
     )
 
 pub relax-label-spec : {M : Type 1} → statement M

@@ -7,9 +7,10 @@ use lib.Dec.{eqb, ltb}
 use lib.ListN.{length, drop}
 use borrow.Author.Needs.{needs}
 use borrow.Author.Tests.{ne-eqb}
+use Rattle.words.proofs.Free.{only-refl, only-trans}
 use Rattle.model.specs.Plan.{Plan}
 use Rattle.words.proofs.Memory.{part-length}
-use Rattle.graph.specs.Outcomes.{noteRoom}
+use Rattle.graph.specs.Outcomes.{NotesFree}
 use Rattle.store.specs.Store.{rowBytes}
 use Rattle.discovery.specs.Discovery.{nodeIn}
 use Rattle.discovery.proofs.Growing.{labels-shifted}
@@ -26,7 +27,7 @@ abbrev Inv-loop : tie.InvT-loop
 Inv-loop claim next rules u notes₀ m₀ moved₀ node labels label₀ notes m moved label =
     (label ≤ labels) × (length notes ≡ length notes₀) × (length m ≡ length m₀)
     × ((P : Plan) → Sought P rules next m₀ claim → DoneBelow P claim u label m₀ m moved)
-    × (drop noteRoom notes ≡ drop noteRoom notes₀)
+    × NotesFree notes₀ notes
 
 abbrev μ-loop : tie.MeasureT-loop
 μ-loop claim next rules u notes₀ m₀ moved₀ node labels label₀ notes m moved label = labels - label
@@ -48,7 +49,7 @@ returns c =
         tried = λ e f.
             ap (λ (l : Link). eqb (l .mark) waiting) (sym (call .link-to .ensures)) ∙ ne-eqb (call .link-to .result .mark) waiting (c .if1 .taken);
       },
-      refl,
+      only-refl,
     )
 
 row-requires : tie.Need-row-requires Inv-loop μ-loop
@@ -75,7 +76,7 @@ shl-labels c =
     omega (arith, rules .size, rules .tasks .count)
 
 loop-holds : tie.Need-loop-holds Inv-loop μ-loop
-loop-holds c = (omega arith, refl, refl, λ P s. below-none (s .search), refl)
+loop-holds c = (omega arith, refl, refl, λ P s. below-none (s .search), only-refl)
 
 -- the node waits, so it is known
 known : (c : tie.At-loop Inv-loop μ-loop) →
@@ -121,7 +122,7 @@ returns-2 c =
             advance = advance-circuit (b .advance) refl (call .relax-label .ensures .0 P (sought-after (b .advance) refl s) .advance) found;
             tried = λ e f. absurd (omega (arith, found));
           },
-      call .relax-label .ensures .1 ∙ l .inv .4,
+      only-trans (l .inv .4) (call .relax-label .ensures .1),
     )
 
 add-label : tie.Need-add-label Inv-loop μ-loop
@@ -140,7 +141,7 @@ loop-again c =
       λ P s.
           let b = l .inv .3 P s in
           below-more b (call .relax-label .ensures .0 P (sought-after (b .advance) refl s)) (c .before .if2 .left),
-      call .relax-label .ensures .1 ∙ l .inv .4,
+      only-trans (l .inv .4) (call .relax-label .ensures .1),
     )
 
 set-mark-requires : tie.Need-set-mark-requires Inv-loop μ-loop

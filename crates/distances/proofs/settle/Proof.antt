@@ -2,8 +2,9 @@
 use mathlib.Core.Path.{_≡_, refl, _∙_}
 use native.Mathlib.Omega.{arith}
 use lib.ListN.{length, drop}
+use Rattle.words.proofs.Free.{only-refl, only-trans}
 use Rattle.model.specs.Plan.{Plan}
-use Rattle.graph.specs.Outcomes.{noteRoom}
+use Rattle.graph.specs.Outcomes.{NotesFree}
 use Rattle.distances.specs.Distances.{Priced, Sought}
 use Rattle.distances.proofs.Passes.{Passed, ahead, passed-none, passed-sought, passed-more, pass-less, begin-sought, passed-end}
 use Rattle.distances.proofs.settle.Statement.{statement}
@@ -13,7 +14,7 @@ abbrev Inv-loop : tie.InvT-loop
 Inv-loop claim next rules notes₀ m₀ moved₀ steps₀ notes m moved steps =
     (length notes ≡ length notes₀) × (length m ≡ length m₀)
     × ((P : Plan) → Sought P rules next m₀ claim → Passed P claim m₀ m moved steps)
-    × (drop noteRoom notes ≡ drop noteRoom notes₀)
+    × NotesFree notes₀ notes
 
 abbrev μ-loop : tie.MeasureT-loop
 μ-loop claim next rules notes₀ m₀ moved₀ steps₀ notes m moved steps = ahead (claim .n) m moved
@@ -22,7 +23,7 @@ begin-requires : tie.Need-begin-requires Inv-loop μ-loop
 begin-requires c κs = c .before .before .before .pre .1 .priced .room
 
 loop-holds : tie.Need-loop-holds Inv-loop μ-loop
-loop-holds c = (refl, refl, λ P s. passed-none (s .search), refl)
+loop-holds c = (refl, refl, λ P s. passed-none (s .search), only-refl)
 
 -- a plan is searched when the passes begin
 sought : (c : tie.At-loop Inv-loop μ-loop) →
@@ -63,7 +64,7 @@ loop-again c =
       λ P s.
           let p = l .inv .2 P s in
           passed-more p again (call .pass .ensures .0 P (passed-sought p s again)),
-      call .pass .ensures .1 ∙ l .inv .3,
+      only-trans (l .inv .3) (call .pass .ensures .1),
     )
 
 same-length : tie.Need-same-length Inv-loop μ-loop

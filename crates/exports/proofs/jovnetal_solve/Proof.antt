@@ -2,23 +2,15 @@
 -- Assumes nothing.
 use mathlib.Core.Path.{_≡_, refl, sym, ap, _∙_}
 use mathlib.Core.List.{List}
-use Prim.Native.Nat.{ℕ, _+_, _≤_}
+use Prim.Native.Nat.{ℕ, _+_}
 use native.Mathlib.Omega.{arith}
-use Rattle.solver.specs.declared.Refusal.{Refusal}
-use Rattle.solver.specs.declared.Refusal.the-variants.{ShortMemory, Plan, TooManyNodes}
 use Rattle.solver.specs.declared.Answer.{Answer}
-use Rattle.solver.specs.Promise.{refusalNumber, Solves}
+use Rattle.solver.specs.Promise.{Solves}
 use Rattle.exports.specs.Codes.{solveCode, SolvesAs}
-use Rattle.exports.proofs.Faults.{fault-small}
+use Rattle.refusals.proofs.Small.{refusal-small}
 use borrow.Author.Needs.{needs}
 use Rattle.exports.proofs.jovnetal_solve.Statement.{statement}
 use Rattle.exports.proofs.jovnetal_solve.Tie as tie
-
--- the numbers of refusals are small
-refusal-small : (r : Refusal) → refusalNumber r ≤ 13
-refusal-small ShortMemory = omega arith
-refusal-small (Plan f) = fault-small f
-refusal-small TooManyNodes = omega arith
 
 -- the answer that a match has told
 solves-as : {plan work work′ out out′ : List ℕ} {a b : Answer} {r : ℕ} → a ≡ b → r ≡ solveCode b → Solves plan work work′ out out′ a →

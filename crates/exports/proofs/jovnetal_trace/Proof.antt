@@ -1,25 +1,16 @@
 -- `exports::jovnetal_trace` meets its contract: each answer is its number.
 -- Assumes nothing.
 use mathlib.Core.Path.{_≡_, sym, ap, _∙_}
-use Prim.Native.Nat.{ℕ, _+_, _≤_}
+use Prim.Native.Nat.{ℕ, _+_}
 use native.Mathlib.Omega.{arith}
 use Rattle.model.specs.Trace.{TraceResult}
-use Rattle.tracer.specs.declared.Refusal.{Refusal}
-use Rattle.tracer.specs.declared.Refusal.the-variants.{ShortMemory, Plan, TooManyLabels, NotAdmitted}
 use Rattle.tracer.specs.declared.Answer.{Answer}
-use Rattle.tracer.specs.Promise.{refusalNumber, answerOf}
+use Rattle.tracer.specs.Promise.{answerOf}
 use Rattle.exports.specs.Codes.{traceCode}
-use Rattle.exports.proofs.Faults.{fault-small}
+use Rattle.refusals.proofs.Small.{refusal-small}
 use borrow.Author.Needs.{needs}
 use Rattle.exports.proofs.jovnetal_trace.Statement.{statement}
 use Rattle.exports.proofs.jovnetal_trace.Tie as tie
-
--- the numbers of refusals are small
-refusal-small : (r : Refusal) → refusalNumber r ≤ 13
-refusal-small ShortMemory = omega arith
-refusal-small (Plan f) = fault-small f
-refusal-small TooManyLabels = omega arith
-refusal-small NotAdmitted = omega arith
 
 -- the number of an answer
 code-of : {a b : Answer} {t : TraceResult} → a ≡ b → answerOf a ≡ t → traceCode (answerOf b) ≡ traceCode t

@@ -9,7 +9,7 @@ use borrow.Author.Tests.{not-true, not-false}
 use borrow.Fn.Kinds.{In}
 use borrow.Fn.PlainCycle.{Measures, is, falls, and}
 use Rattle.model.specs.Plan.{Task}
-use Rattle.plan.specs.View.{taskOf}
+use Rattle.plan.specs.View.{taskView}
 use Rattle.graph.specs.Outcomes.{chosenWith}
 use Rattle.graph.specs.Choice.{nextChoice, fitsTask}
 use Rattle.graph.proofs.Choices.{task-range}
@@ -115,7 +115,7 @@ choice-from-with-mask-requires t c κs =
     let f = c .before .fits2 in (
       p .1,
       omega (arith, p .0 .tasks .count, p .0 .size, p .2, n .if1 .left),
-      fits-low (taskOf (c .before .before .before .task-at .result)) (c .before .before .is-released .result) (s .args .chosen .pattern) (getD (s .args .t3) (s .args .chosen .task) 0)
+      fits-low (taskView (c .before .before .before .task-at .result)) (c .before .before .is-released .result) (s .args .chosen .pattern) (getD (s .args .t3) (s .args .chosen .task) 0)
           (omega (arith, ap (λ (k : Task). k .window) is, range .window)) (sym (f .ensures) ∙ not-false (f .result) (c .if3 .left)),
     )
 

@@ -9,7 +9,7 @@ use Rattle.model.specs.Slot.{slot}
 use Rattle.plan.specs.View.{nextOf}
 use Rattle.plan.proofs.View.{next-some}
 use Rattle.policy.specs.View.{jobsOf, tasksIn, doneOf}
-use Rattle.graph.specs.Choice.{ledOf, gainIn}
+use Rattle.graph.specs.Choice.{ledOf, leadGain}
 use Rattle.graph.proofs.Edges.{edge-none, edge-some, stepped-none}
 use Rattle.graph.proofs.edge_by.Statement.{statement}
 use Rattle.graph.proofs.edge_by.Tie as tie
@@ -84,7 +84,7 @@ returns-3 c =
       cells = slotted .slot .ensures .cells;
       state = start .pre .2 .to (a .node .state) (a .label) (to - 1) (sym next);
       kept = omega (arith, slotted .slot .ok);
-      ideal = omega (arith, ap gainIn is, chosen .choice-at .ensures .1);
+      ideal = omega (arith, ap leadGain is, chosen .choice-at .ensures .1);
     }
 
 pub edge-by-spec : {M : Type 1} → statement M

@@ -1,7 +1,7 @@
 -- `graph::note_choices` meets its contract: the recursion starts with no mask.
 -- Assumes nothing.
 use borrow.Author.Needs.{needs}
-use Rattle.graph.specs.Outcomes.{tasksIn}
+use Rattle.graph.specs.Outcomes.{tasksReleased}
 use Rattle.graph.proofs.Choices.{outcomes-start}
 use Rattle.graph.proofs.note_choices.Statement.{statement}
 use Rattle.graph.proofs.note_choices.Tie as tie
@@ -19,7 +19,7 @@ returns : tie.Need-returns
 returns c =
     let start = c .before .before .before .before .before .before .before in
     let release = start .args .release in
-    rw (← outcomes-start (tasksIn release) (release .label) (start .args .taken) (start .pre .0 .tasks .count))
+    rw (← outcomes-start (tasksReleased release) (release .label) (start .args .taken) (start .pre .0 .tasks .count))
     (c .before .before .note-task .ensures)
 
 pub note-choices-spec : {M : Type 1} → statement M

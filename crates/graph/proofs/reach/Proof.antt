@@ -5,6 +5,7 @@ use Prim.Native.Nat.{_<_}
 use native.Mathlib.Omega.{arith}
 use borrow.Author.Needs.{needs}
 use Rattle.model.specs.Masks.{maskCount}
+use Rattle.words.proofs.Free.{only-trans}
 use Rattle.policy.specs.View.{tasksIn}
 use Rattle.graph.specs.Outcomes.{Notes, outcomes, note, notesIn, notedOf, nothingNoted}
 use Rattle.graph.proofs.Labels.{label-readable}
@@ -38,7 +39,7 @@ returns c =
       notes = notes;
       readable = label-readable (tasksIn (a .rules)) (start .pre .0 .tasks) (a .label) (a .node .taken) low
           (noted .note-choices .last .1 .1 .0) (noted .note-choices .result) notes (noted .note-choices .ensures .room);
-      rest = noted .note-choices .ensures .rest ∙ cleared .clear-notes .ensures .rest;
+      only = only-trans (cleared .clear-notes .ensures .only) (noted .note-choices .ensures .only);
     }
 
 pub reach-spec : {M : Type 1} → statement M

@@ -9,7 +9,7 @@ use lib.Seq.{getD-take}
 use borrow.Author.Needs.{needs}
 use Rattle.model.specs.Slot.{noTask}
 use Rattle.plan.specs.declared.Task.{Task}
-use Rattle.plan.specs.View.{taskOf, tasksOf}
+use Rattle.plan.specs.View.{taskView, tasksOf}
 use Rattle.graph.proofs.task_at.Statement.{statement}
 use Rattle.graph.proofs.task_at.Tie as tie
 
@@ -19,9 +19,9 @@ mul-result c = search needs
 array-copy-out-result : tie.Need-array-copy-out-result
 array-copy-out-result c = search needs
 
-given : (ts : List Task) (n i : ℕ) → i < n → taskOf (getD ts i (record { work = 0; window = 0; value = 0 })) ≡ getD (tasksOf ts n) i noTask
+given : (ts : List Task) (n i : ℕ) → i < n → taskView (getD ts i (record { work = 0; window = 0; value = 0 })) ≡ getD (tasksOf ts n) i noTask
 given ts n i h =
-    sym (List·getD-map taskOf (take n ts) i (record { work = 0; window = 0; value = 0 }) ∙ ap taskOf (getD-take n ts i (record { work = 0; window = 0; value = 0 }) h))
+    sym (List·getD-map taskView (take n ts) i (record { work = 0; window = 0; value = 0 }) ∙ ap taskView (getD-take n ts i (record { work = 0; window = 0; value = 0 }) h))
 
 returns : tie.Need-returns
 returns c =

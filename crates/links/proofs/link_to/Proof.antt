@@ -7,7 +7,7 @@ use mir.Facts.{toZ-ofZ}
 use Prim.Native.Nat.{_+_}
 use lib.ListN.{getD}
 use borrow.Author.Needs.{needs}
-use Rattle.links.specs.Links.{linkAt}
+use Rattle.links.specs.Links.{linkPlace}
 use Rattle.links.proofs.link_to.Statement.{statement}
 use Rattle.links.proofs.link_to.Tie as tie
 
@@ -49,8 +49,8 @@ returns c =
     λ i. record {
       distance = (toZ-ofZ {w = w64} (record { sfits = w .before .read-i64 .ok }) ∙ w .before .read-i64 .ensures) i;
       parent = w .read-u16 .ensures i;
-      label = getD m (linkAt v + 10) 0;
-      mark = getD m (linkAt v + 11) 0;
+      label = getD m (linkPlace v + 10) 0;
+      mark = getD m (linkPlace v + 11) 0;
     }
 
 pub link-to-spec : {M : Type 1} → statement M

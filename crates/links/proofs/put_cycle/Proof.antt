@@ -11,7 +11,7 @@ use Rattle.theory.specs.Search.{above}
 use Rattle.theory.proofs.Upward.{above-next}
 use Rattle.links.specs.Links.{linksEnd, linkIn, stateIn, PutsStep}
 use Rattle.links.specs.declared.Link.{Link}
-use Rattle.links.proofs.Frames.{only-links}
+use Rattle.links.proofs.Written.{only-links}
 use Rattle.links.proofs.Climb.{climbs-below, climbs-short, Trailing, trailing-start, trailing-next, trailing-all}
 use Rattle.links.proofs.put_cycle.Statement.{statement}
 use Rattle.links.proofs.put_cycle.Tie as tie

@@ -9,7 +9,7 @@ use native.Mathlib.Omega.{arith}
 use borrow.Author.Needs.{needs}
 use lib.ListN.{set, length-set}
 use Rattle.model.specs.Bytes.{bytes, complement, overwrite}
-use Rattle.links.specs.Links.{linkAt, Puts}
+use Rattle.links.specs.Links.{linkPlace, Puts}
 use Rattle.links.proofs.Written.{puts, link-written}
 use Rattle.links.proofs.put_link.Statement.{statement}
 use Rattle.links.proofs.put_link.Tie as tie
@@ -51,14 +51,14 @@ returns : tie.Need-returns
 returns c =
     let a = c .before .before .before .before .before .before .before .before .before .before .before in
     let told = c .before .before .before .before .before .before .before .before .struct-told .given in
-    let first : c .before .before .before .before .before .before .before .write-i64 .last .0 ≡ overwrite (now (a .args .m)) (linkAt (a .args .v)) (bytes 8 (complement (a .args .link .distance)))
+    let first : c .before .before .before .before .before .before .before .write-i64 .last .0 ≡ overwrite (now (a .args .m)) (linkPlace (a .args .v)) (bytes 8 (complement (a .args .link .distance)))
     = c .before .before .before .before .before .before .before .write-i64 .ensures
-    ∙ ap (λ z. overwrite (now (a .args .m)) (linkAt (a .args .v)) (bytes 8 (complement z))) (toZ-ofZ {w = w64} (record { sfits = told .0 .1 })) in
+    ∙ ap (λ z. overwrite (now (a .args .m)) (linkPlace (a .args .v)) (bytes 8 (complement z))) (toZ-ofZ {w = w64} (record { sfits = told .0 .1 })) in
     subst (Puts (a .args .v) (a .args .link) (now (a .args .m)))
     (sym
-    (ap (λ x. set (set x (linkAt (a .args .v) + 10) (a .args .link .label)) (linkAt (a .args .v) + 11) (a .args .link .mark))
-    (c .before .before .write-u16 .ensures ∙ ap (λ x. overwrite x (linkAt (a .args .v) + 8) (bytes 2 (a .args .link .parent))) first)
-    ∙ link-written (now (a .args .m)) (linkAt (a .args .v)) (a .args .link) (omega (arith, a .pre))))
+    (ap (λ x. set (set x (linkPlace (a .args .v) + 10) (a .args .link .label)) (linkPlace (a .args .v) + 11) (a .args .link .mark))
+    (c .before .before .write-u16 .ensures ∙ ap (λ x. overwrite x (linkPlace (a .args .v) + 8) (bytes 2 (a .args .link .parent))) first)
+    ∙ link-written (now (a .args .m)) (linkPlace (a .args .v)) (a .args .link) (omega (arith, a .pre))))
     (puts (a .args .link) (told .0 .1) (omega (arith, a .pre)) (now (a .args .m)) (a .args .v) (a .pre .1) (a .pre .0))
 
 pub put-link-spec : {M : Type 1} → statement M

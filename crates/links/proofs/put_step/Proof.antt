@@ -8,7 +8,7 @@ use borrow.Author.Needs.{needs}
 use lib.ListN.{set}
 use Rattle.words.proofs.Memory.{overwrite-more}
 use Rattle.words.proofs.Numbers.{bytes-length}
-use Rattle.links.specs.Links.{stepAt, PutsStep}
+use Rattle.links.specs.Links.{stepPlace, PutsStep}
 use Rattle.links.proofs.Written.{puts-step}
 use Rattle.links.proofs.put_step.Statement.{statement}
 use Rattle.links.proofs.put_step.Tie as tie
@@ -40,8 +40,8 @@ returns c =
     let two = bytes-length 2 (a .args .step .node) in
     subst (PutsStep (a .args .i) (a .args .step) (now (a .args .m)))
     (sym
-    (ap (λ x. set x (stepAt (a .args .i) + 2) (a .args .step .label)) (c .before .before .write-u16 .ensures)
-    ∙ overwrite-more (now (a .args .m)) (stepAt (a .args .i)) _ 2 (a .args .step .label) two (omega (arith, a .pre))))
+    (ap (λ x. set x (stepPlace (a .args .i) + 2) (a .args .step .label)) (c .before .before .write-u16 .ensures)
+    ∙ overwrite-more (now (a .args .m)) (stepPlace (a .args .i)) _ 2 (a .args .step .label) two (omega (arith, a .pre))))
     (puts-step (a .args .step) (omega (arith, a .pre)) (now (a .args .m)) (a .args .i) (a .pre .1) (a .pre .0))
 
 pub put-step-spec : {M : Type 1} → statement M

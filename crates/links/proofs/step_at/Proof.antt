@@ -4,7 +4,7 @@ use denote.Ref.{now}
 use Prim.Native.Nat.{_+_}
 use lib.ListN.{getD}
 use borrow.Author.Needs.{needs}
-use Rattle.links.specs.Links.{stepAt}
+use Rattle.links.specs.Links.{stepPlace}
 use Rattle.links.proofs.step_at.Statement.{statement}
 use Rattle.links.proofs.step_at.Tie as tie
 
@@ -31,7 +31,7 @@ returns c =
     let w = c .before in
     let m = now (w .before .before .args .m) in
     let i = w .before .before .args .i in
-    λ j. record { node = w .read-u16 .ensures j; label = getD m (stepAt i + 2) 0 }
+    λ j. record { node = w .read-u16 .ensures j; label = getD m (stepPlace i + 2) 0 }
 
 pub step-at-spec : {M : Type 1} → statement M
 step-at-spec =

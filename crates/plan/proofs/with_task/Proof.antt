@@ -10,14 +10,14 @@ use lib.ListN.{length, set, take, length-set}
 use lib.Seq.{take-suc-set}
 use Rattle.model.specs.Plan.{after}
 use Rattle.plan.specs.declared.Task.{Task}
-use Rattle.plan.specs.View.{taskOf, tasksOf}
+use Rattle.plan.specs.View.{taskView, tasksOf}
 use Rattle.plan.proofs.with_task.Statement.{statement}
 use Rattle.plan.proofs.with_task.Tie as tie
 
 -- the tasks given, with one stored after them
-task-added : (ts : List Task) (n : ℕ) (t : Task) → n < length ts → tasksOf (set ts n t) (n + 1) ≡ tasksOf ts n ++ (taskOf t ∷ [])
+task-added : (ts : List Task) (n : ℕ) (t : Task) → n < length ts → tasksOf (set ts n t) (n + 1) ≡ tasksOf ts n ++ (taskView t ∷ [])
 task-added ts n t h =
-    ap (tasksOf (set ts n t)) (add-one n) ∙ ap (map taskOf) (take-suc-set ts n t h) ∙ map-append taskOf (take n ts) (t ∷ [])
+    ap (tasksOf (set ts n t)) (add-one n) ∙ ap (map taskView) (take-suc-set ts n t h) ∙ map-append taskView (take n ts) (t ∷ [])
 
 room : (c : tie.Start) → c .args .r .count < length (c .args .r .tasks)
 room c = omega (arith, c .pre .room refl, c .pre .within .room)

@@ -8,7 +8,7 @@ use lib.Seq.{getD-take}
 use Rattle.model.specs.Limits.{maxTasks}
 use Rattle.model.specs.Slot.{noTask}
 use Rattle.plan.specs.declared.Task.{Task}
-use Rattle.plan.specs.View.{taskOf, tasksOf}
+use Rattle.plan.specs.View.{taskView, tasksOf}
 use borrow.Author.Needs.{needs}
 use native.Mathlib.Omega.{arith}
 use Rattle.policy.proofs.task_in.Statement.{statement}
@@ -16,11 +16,11 @@ use Rattle.policy.proofs.task_in.Tie as tie
 
 not-given : (ts : List Task) (n i : ℕ) → n ≤ i → getD (tasksOf ts n) i noTask ≡ noTask
 not-given ts n i h =
-    List·getD-eq-default (tasksOf ts n) noTask (omega (arith, length-map (take n ts) taskOf, length-take n ts))
+    List·getD-eq-default (tasksOf ts n) noTask (omega (arith, length-map (take n ts) taskView, length-take n ts))
 
-given : (ts : List Task) (n i : ℕ) → i < n → taskOf (getD ts i (record { work = 0; window = 0; value = 0 })) ≡ getD (tasksOf ts n) i noTask
+given : (ts : List Task) (n i : ℕ) → i < n → taskView (getD ts i (record { work = 0; window = 0; value = 0 })) ≡ getD (tasksOf ts n) i noTask
 given ts n i h =
-    sym (List·getD-map taskOf (take n ts) i (record { work = 0; window = 0; value = 0 }) ∙ ap taskOf (getD-take n ts i (record { work = 0; window = 0; value = 0 }) h))
+    sym (List·getD-map taskView (take n ts) i (record { work = 0; window = 0; value = 0 }) ∙ ap taskView (getD-take n ts i (record { work = 0; window = 0; value = 0 }) h))
 
 returns : tie.Need-returns
 returns c =

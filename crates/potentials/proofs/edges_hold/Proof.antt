@@ -5,6 +5,7 @@ use Prim.Native.Nat.{ℕ, _+_, _-_, _*_, _≤_}
 use native.Mathlib.Omega.{arith}
 use lib.ListN.{length, drop}
 use borrow.Author.Tests.{not-true, not-false}
+use Rattle.words.proofs.Free.{only-refl, only-trans}
 use Rattle.model.specs.Certificate.{Certificate}
 use Rattle.model.specs.Check.{edgeOk}
 use Rattle.model.specs.Graph.{edges, nodes}
@@ -13,7 +14,7 @@ use Rattle.model.specs.Plan.{Plan}
 use Rattle.model.proofs.All.{all-next, all-stops}
 use Rattle.words.proofs.Memory.{part-length}
 use Rattle.policy.specs.View.{tasksIn}
-use Rattle.graph.specs.Outcomes.{noteRoom}
+use Rattle.graph.specs.Outcomes.{NotesFree}
 use Rattle.graph.specs.View.{nodeOf}
 use Rattle.graph.specs.declared.Node.{Node}
 use Rattle.store.specs.Store.{rowBytes, rowAt}
@@ -27,13 +28,13 @@ abbrev Inv-loop : tie.InvT-loop
 Inv-loop claim next rules s notes₀ m n number₀ notes number =
     (1 ≤ number) × (number ≤ n + 1) × (length notes ≡ length notes₀)
     × ((P : Plan) (d : Certificate) → Test P d rules next m s claim → all (rowOk P d claim rules m) (upFrom 0 (number - 1)) ≡ true)
-    × (drop noteRoom notes ≡ drop noteRoom notes₀)
+    × NotesFree notes₀ notes
 
 abbrev μ-loop : tie.MeasureT-loop
 μ-loop claim next rules s notes₀ m n number₀ notes number = n + 1 - number
 
 loop-holds : tie.Need-loop-holds Inv-loop μ-loop
-loop-holds c = (omega arith, omega arith, refl, λ P d t. refl, refl)
+loop-holds c = (omega arith, omega arith, refl, λ P d t. refl, only-refl)
 
 sub-u : tie.Need-sub-u Inv-loop μ-loop
 sub-u c = omega (arith, c .before .loop .inv .0)
@@ -87,7 +88,7 @@ returns c =
           sym (edges-rows P d (a .rules) (a .next .now) (a .m .now) (a .s .now) (a .claim) t
           ∙ all-stops (rowOk P d (a .claim) (a .rules) (a .m .now)) (l .number - 1) (a .claim .n) (omega (arith, l .inv .0))
           (sym (turn call P d t) ∙ not-true (call .node-holds .result) (c .if1 .taken))),
-      call .node-holds .ensures .1 ∙ l .inv .4,
+      only-trans (l .inv .4) (call .node-holds .ensures .1),
     )
 
 add-number : tie.Need-add-number Inv-loop μ-loop
@@ -111,7 +112,7 @@ loop-again c =
           subst (λ (n : ℕ). all (rowOk P d (a .claim) (a .rules) (a .m .now)) (upFrom 0 n) ≡ true) more
           (all-next (rowOk P d (a .claim) (a .rules) (a .m .now)) (l .number - 1) (l .inv .3 P d t)
           (sym (turn call P d t) ∙ not-false (call .node-holds .result) (c .if1 .left))),
-      call .node-holds .ensures .1 ∙ l .inv .4,
+      only-trans (l .inv .4) (call .node-holds .ensures .1),
     )
 
 same-length-2 : tie.Need-same-length-2 Inv-loop μ-loop

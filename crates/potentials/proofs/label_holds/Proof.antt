@@ -8,6 +8,7 @@ use mir.Syntax.{w64}
 use mir.Val.{SFits, toZ, ofZ}
 use mir.Facts.{toZ-ofZ}
 use borrow.Author.Needs.{needs}
+use Rattle.words.proofs.Free.{only-refl}
 use Rattle.model.specs.Certificate.{Certificate, readCertificate}
 use Rattle.model.specs.Check.{potentialAt}
 use Rattle.model.specs.Masks.{maskCount}
@@ -34,7 +35,7 @@ returns c =
       λ P d t.
           label-not P d (a .rules) (a .next .now) (a .m .now) (a .s .now) (a .claim) t (a .u) (a .node) (start .pre .2)
           (a .label) (read .result) (read .ensures) (c .if1 .taken),
-      refl,
+      only-refl,
     )
 
 reach-requires : tie.Need-reach-requires
@@ -124,7 +125,7 @@ returns-2 c =
           ∙ label-tested P d (a .rules) (a .next .now) (a .m .now) (a .s .now) (a .claim) t (a .u) (a .node) (start .pre .2)
           (a .label) (read .next-state .result) (read .next-state .ensures) (omega (arith, call .before .before .if1 .left)) (start .pre .0) low
           (a .notes .now) (call .reach .last .1 .1 .1 .0) (call .reach .result) (call .reach .ensures) _ (high (c .before .before) d (t .read)),
-      call .reach .ensures .rest,
+      call .reach .ensures .only,
     )
 
 pub label-holds-spec : {M : Type 1} → statement M

@@ -6,12 +6,13 @@ use native.Mathlib.Omega.{arith}
 use lib.ListN.{length, drop}
 use borrow.Author.Needs.{needs}
 use borrow.Author.Tests.{not-true, not-false}
+use Rattle.words.proofs.Free.{only-refl, only-trans}
 use Rattle.model.specs.Certificate.{Certificate}
 use Rattle.model.specs.Lists.{all, upFrom}
 use Rattle.model.specs.Plan.{Plan}
 use Rattle.model.proofs.All.{all-next, all-stops}
 use Rattle.policy.specs.View.{tasksIn}
-use Rattle.graph.specs.Outcomes.{noteRoom}
+use Rattle.graph.specs.Outcomes.{NotesFree}
 use Rattle.graph.specs.View.{nodeOf}
 use Rattle.discovery.proofs.Growing.{labels-shifted}
 use Rattle.potentials.specs.Potentials.{Test}
@@ -23,7 +24,7 @@ abbrev Inv-loop : tie.InvT-loop
 Inv-loop claim next rules s u node notes₀ m labels label₀ notes label =
     (label ≤ labels) × (length notes ≡ length notes₀)
     × ((P : Plan) (d : Certificate) → Test P d rules next m s claim → all (labelOk P d claim u (nodeOf (tasksIn rules) node)) (upFrom 0 label) ≡ true)
-    × (drop noteRoom notes ≡ drop noteRoom notes₀)
+    × NotesFree notes₀ notes
 
 abbrev μ-loop : tie.MeasureT-loop
 μ-loop claim next rules s u node notes₀ m labels label₀ notes label = labels - label
@@ -39,7 +40,7 @@ shl-labels c =
     omega (arith, rules .size, rules .tasks .count)
 
 loop-holds : tie.Need-loop-holds Inv-loop μ-loop
-loop-holds c = (omega arith, refl, λ P d t. refl, refl)
+loop-holds c = (omega arith, refl, λ P d t. refl, only-refl)
 
 label-holds-requires : tie.Need-label-holds-requires Inv-loop μ-loop
 label-holds-requires c κs =
@@ -70,7 +71,7 @@ returns c =
           sym (node-labels P d (a .rules) (a .next .now) (a .m .now) (a .s .now) (a .claim) t (start .pre .0) (a .u) (nodeOf (tasksIn (a .rules)) (a .node))
           ∙ all-stops (labelOk P d (a .claim) (a .u) (nodeOf (tasksIn (a .rules)) (a .node))) (l .label) (2 ^ a .rules .count) (omega (arith, labels head))
           (sym (call .label-holds .ensures .0 P d t) ∙ not-true (call .label-holds .result) (c .if1 .taken))),
-      call .label-holds .ensures .1 ∙ l .inv .3,
+      only-trans (l .inv .3) (call .label-holds .ensures .1),
     )
 
 add-label : tie.Need-add-label Inv-loop μ-loop
@@ -91,7 +92,7 @@ loop-again c =
       λ P d t.
           all-next (labelOk P d (a .claim) (a .u) (nodeOf (tasksIn (a .rules)) (a .node))) (l .label) (l .inv .2 P d t)
           (sym (call .label-holds .ensures .0 P d t) ∙ not-false (call .label-holds .result) (c .if1 .left)),
-      call .label-holds .ensures .1 ∙ l .inv .3,
+      only-trans (l .inv .3) (call .label-holds .ensures .1),
     )
 
 same-length-2 : tie.Need-same-length-2 Inv-loop μ-loop

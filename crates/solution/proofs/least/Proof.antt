@@ -7,19 +7,20 @@ use lib.ListN.{length, drop}
 use Rattle.model.specs.Check.{fractionOk}
 use Rattle.model.specs.Plan.{Plan}
 use Rattle.policy.specs.View.{tasksIn}
-use Rattle.graph.specs.Outcomes.{noteRoom}
+use Rattle.graph.specs.Outcomes.{noteRoom, NotesFree}
 use Rattle.graph.specs.View.{Planned}
 use Rattle.discovery.specs.Discovery.{Holds}
 use Rattle.theory.proofs.Fractions.{fractionLeft}
-use Rattle.links.specs.Links.{linksAt, linksSize, stepsSize, linksEnd, Only}
-use Rattle.links.proofs.Frames.{only-refl, only-trans}
+use Rattle.model.specs.Bytes.{Only}
+use Rattle.links.specs.Links.{linksAt, linksSize, stepsSize, linksEnd}
+use Rattle.words.proofs.Free.{only-refl, only-trans}
 use Rattle.solution.proofs.Falls.{Aimed, aimed-after, aimed-circling, aimed-less}
 use Rattle.solution.proofs.least.Statement.{statement}
 use Rattle.solution.proofs.least.Tie as tie
 
 abbrev Inv-loop : tie.InvT-loop
 Inv-loop next rules n notes₀ m₀ p₀ q₀ steps₀ found₀ notes m p q steps found =
-    (length notes ≡ length notes₀) × (drop noteRoom notes ≡ drop noteRoom notes₀) × Only linksAt (linksSize + stepsSize) m₀ m
+    (length notes ≡ length notes₀) × NotesFree notes₀ notes × Only linksAt (linksSize + stepsSize) m₀ m
     × ((P : Plan) → Aimed P rules next m₀ n (record { p = p₀; q = q₀; steps = steps₀ }) found₀ → Aimed P rules next m n (record { p = p; q = q; steps = steps }) found)
 
 abbrev μ-loop : tie.MeasureT-loop
@@ -46,7 +47,7 @@ first c P planned holds =
     (c .settle .ensures .0 P (record { planned = planned; holds = holds; fraction = nothing-recurs; room = c .before .before .before .before .before .pre .2 }))
 
 loop-holds : tie.Need-loop-holds Inv-loop μ-loop
-loop-holds c = (refl, refl, only-refl linksAt (linksSize + stepsSize) _, λ P a. a)
+loop-holds c = (refl, only-refl, only-refl, λ P a. a)
 
 -- where a turn stands, for the plan that there is
 here : (l : tie.At-loop Inv-loop μ-loop) →
@@ -104,7 +105,7 @@ loop-again c =
     let a = here l in
     let f = lower .ensures .0 (h .plan) _ _ (aimed-circling a found) in (
       call .kept .1 .1 .1 .0 ∙ lower .kept .1 .1 .0 ∙ inv .0,
-      call .ensures .1 ∙ lower .ensures .1 ∙ inv .1,
+      only-trans (inv .1) (only-trans (lower .ensures .1) (call .ensures .1)),
       only-trans (inv .2) (call .ensures .0 (h .plan) (record { planned = a .planned; holds = a .holds; fraction = f .fraction; room = room l }) .only),
       λ P e.
           let a = inv .3 P e in
@@ -128,7 +129,7 @@ returns c =
       λ P planned holds. l .loop .inv .3 P (first call P planned holds) .rest (c .loop-test .left),
       (
         only-trans (call .settle .ensures .0 (h .plan) (record { planned = h .planned; holds = h .holds; fraction = nothing-recurs; room = s .pre .2 }) .only) (l .loop .inv .2),
-        l .loop .inv .1 ∙ call .settle .ensures .1,
+        only-trans (call .settle .ensures .1) (l .loop .inv .1),
       ),
     )
 

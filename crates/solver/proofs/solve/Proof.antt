@@ -29,7 +29,7 @@ returns-3 : tie.Need-returns-3
 returns-3 c =
     let call = c .before .before .before .before .before .before .before .before .solve-bytes in
     let a = c .before .before .before .before .before .before .before .before .before .before .before .before .before .before .before .before .args in
-    enough (a .plan .now) (a .work .now) (a .out .now) _ _ _ (c .before .before .before .before .before .before .before .before .before .before .before .before .if1 .left) (c .before .before .before .before .before .before .before .before .before .before .before .if2 .left) (call .ensures)
+    enough (a .plan .now) (a .work .now) (a .out .now) _ _ _ (c .before .before .before .before .before .before .before .before .before .before .before .before .if1 .left) (c .before .before .before .before .before .before .before .before .before .before .before .if2 .left) (call .ensures .0)
     (c .before .before .clear .ensures ∙ ap (λ (n : ℕ). replicate n 0) (call .kept .1 .0))
 
 pub solve-spec : {M : Type 1} → statement M

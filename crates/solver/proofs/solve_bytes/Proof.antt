@@ -3,9 +3,10 @@ use mathlib.Core.Path.{refl, sym, subst}
 use borrow.Author.Needs.{needs}
 use Rattle.model.specs.Plan.{PlanAnswer}
 use Rattle.model.specs.Solve.{solvePlan}
+use Rattle.words.proofs.Free.{only-refl}
 use Rattle.plan.specs.View.{planOf}
 use Rattle.plan.proofs.View.{read-as}
-use Rattle.solver.specs.declared.Refusal.the-variants.{Plan}
+use Rattle.refusals.specs.declared.Refusal.the-variants.{Plan}
 use Rattle.solver.specs.declared.Answer.the-variants.{Refused}
 use Rattle.solver.specs.Promise.{Does}
 use Rattle.solver.proofs.solve_bytes.Statement.{statement}
@@ -29,9 +30,11 @@ solve-plan-requires c κs =
 returns : tie.Need-returns
 returns c =
     let r = c .before .before .before .before in
-    let a = c .before .before .before .before .before .before .before .before .args in
-    subst (λ (x : PlanAnswer). Does (solvePlan x) (a .out .now) (a .out .now) (Refused (Plan (c .before .outcome .given .0 .0))))
-    (sym (read-as (planOf (r .read .result .plan)) (r .read .ensures .1) (c .before .outcome .given .1))) (record { number = refl; kept = refl })
+    let a = c .before .before .before .before .before .before .before .before .args in (
+      subst (λ (x : PlanAnswer). Does (solvePlan x) (a .out .now) (a .out .now) (Refused (Plan (c .before .outcome .given .0 .0))))
+          (sym (read-as (planOf (r .read .result .plan)) (r .read .ensures .1) (c .before .outcome .given .1))) (record { number = refl; kept = refl }),
+      only-refl,
+    )
 
 same-length : tie.Need-same-length
 same-length c = search needs
@@ -43,9 +46,11 @@ returns-2 : tie.Need-returns-2
 returns-2 c =
     let call = c .before .before .before .before .solve-plan in
     let r = c .before .before .before .before .before .before .before .before .before .before in
-    let a = c .before .before .before .before .before .before .before .before .before .before .before .before .before .before .args in
-    subst (λ (x : PlanAnswer). Does (solvePlan x) (a .out .now) (call .last .1 .1 .0) (call .result))
-    (sym (read-as (planOf (r .read .result .plan)) (r .read .ensures .1) (c .before .before .before .before .before .before .before .enum-told .given .1))) (call .ensures)
+    let a = c .before .before .before .before .before .before .before .before .before .before .before .before .before .before .args in (
+      subst (λ (x : PlanAnswer). Does (solvePlan x) (a .out .now) (call .last .1 .1 .0) (call .result))
+          (sym (read-as (planOf (r .read .result .plan)) (r .read .ensures .1) (c .before .before .before .before .before .before .before .enum-told .given .1))) (call .ensures .0),
+      call .ensures .1,
+    )
 
 pub solve-bytes-spec : {M : Type 1} → statement M
 solve-bytes-spec =

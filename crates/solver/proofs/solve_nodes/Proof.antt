@@ -1,8 +1,9 @@
 -- `solver::solve_nodes` meets its contract: the smallest fraction, and then its certificate. Assumes nothing.
-use mathlib.Core.Path.{_∙_, ap}
+use mathlib.Core.Path.{ap}
 use mathlib.Core.Option.{some}
 use native.Mathlib.Omega.{arith}
 use borrow.Author.Needs.{needs}
+use Rattle.words.proofs.Free.{only-trans}
 use Rattle.solver.proofs.solve_nodes.Statement.{statement}
 use Rattle.solver.proofs.solve_nodes.Tie as tie
 
@@ -38,7 +39,7 @@ returns c =
       λ P planned holds.
           let w = write .ensures .0 P (s .args .next .now) (least .ensures .0 P planned holds) in
           record { certificate = w .certificate; solved = w .solved; size = ap some (w .size); bytes = w .bytes },
-      write .ensures .1 ∙ least .ensures .1 .1,
+      (least .ensures .1 .0, only-trans (least .ensures .1 .1) (write .ensures .1)),
     )
 
 pub solve-nodes-spec : {M : Type 1} → statement M

@@ -7,7 +7,9 @@ use Rattle.model.specs.Graph.{nodes}
 use Rattle.plan.specs.View.{planOf}
 use Rattle.graph.specs.View.{Planned}
 use Rattle.graph.proofs.View.{planned-of}
+use Rattle.words.proofs.Free.{only-trans, only-wider}
 use Rattle.discovery.specs.Discovery.{sizeOf}
+use Rattle.links.specs.Links.{linksEnd}
 use Rattle.solver.proofs.Answers.{large, small}
 use Rattle.solver.proofs.solve_plan.Statement.{statement}
 use Rattle.solver.proofs.solve_plan.Tie as tie
@@ -61,8 +63,10 @@ same-length c = search needs
 returns : tie.Need-returns
 returns c =
     let found = c .before .before .before .before .before in
-    let p = planOf (c .before .before .before .before .before .before .before .before .before .before .before .before .before .before .args .plan) in
-    large p (length (nodes p)) _ _ _ (sym (ap sizeOf (c .enum-told .given .1)) ∙ found .discover .ensures .0 .answer p (planned (c .before .before .before .before .before .before .before .before .before .before .before))) refl refl
+    let p = planOf (c .before .before .before .before .before .before .before .before .before .before .before .before .before .before .args .plan) in (
+      large p (length (nodes p)) _ _ _ (sym (ap sizeOf (c .enum-told .given .1)) ∙ found .discover .ensures .0 .answer p (planned (c .before .before .before .before .before .before .before .before .before .before .before))) refl refl,
+      only-wider (found .discover .ensures .0 .only) 0 linksEnd (omega arith) (omega arith),
+    )
 
 same-length-2 : tie.Need-same-length-2
 same-length-2 c = search needs
@@ -76,8 +80,12 @@ returns-2 c =
     let p = planOf (c .before .before .before .before .before .before .before .before .before .before .before .before .before .before .before .before .before .before .before .before .before .before .before .before .before .args .plan) in
     let of = planned (c .before .before .before .before .before .before .before .before .before .before .before .before .before .before .before .before .before .before .before .before .before .before) in
     let count = c .before .before .before .before .before .before .before .before .before .before .before .n .given .1 in
-    small p (length (nodes p)) _ _ _ _ (sym (ap sizeOf count) ∙ found .discover .ensures .0 .answer p of)
-    (c .before .before .before .before .before .solve-nodes .ensures .0 p of (found .discover .ensures .0 .held _ count p of))
+    let solved = c .before .before .before .before .before .solve-nodes .ensures in (
+      small p (length (nodes p)) _ _ _ _ (sym (ap sizeOf count) ∙ found .discover .ensures .0 .answer p of)
+          (solved .0 p of (found .discover .ensures .0 .held _ count p of)),
+      only-trans (only-wider (found .discover .ensures .0 .only) 0 linksEnd (omega arith) (omega arith))
+          (only-wider (solved .1 .0) 0 linksEnd (omega arith) (omega arith)),
+    )
 
 pub solve-plan-spec : {M : Type 1} → statement M
 solve-plan-spec =

@@ -3,6 +3,7 @@ use mathlib.Core.Path.{_≡_, refl, sym, ap, subst, _∙_}
 use Prim.Native.Nat.{ℕ, _+_, _≤_, _<_}
 use native.Mathlib.Omega.{arith}
 use lib.ListN.{length}
+use Rattle.words.proofs.Free.{only-refl}
 use Rattle.model.specs.Bytes.{overwrite}
 use Rattle.model.specs.Limits.{maxNodes, certificateRoom}
 use Rattle.certificate.specs.View.{headSize, endBytes}
@@ -68,7 +69,7 @@ returns c =
       λ P next h.
           written-bare h (end .before .before .if1 .taken) (start .pre .4)
           (end .write-end .ensures ∙ ap (λ x. overwrite x (potentialsEnd (start .args .n)) endBytes) (front w)),
-      refl,
+      only-refl,
     )
 
 write-cycle-requires : tie.Need-write-cycle-requires

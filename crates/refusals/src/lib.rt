@@ -1,0 +1,38 @@
+// Why a call gives no result, each refusal with its number.
+use plan::Fault;
+ghost use mathlib.Core.Path.{_≡_};
+ghost use Rattle.refusals.specs.Numbers.{refusalNumber};
+
+// The plan's author, the certificate's, the calling program, whoever lists releases.
+pub enum Refusal {
+    Plan(Fault),
+    TooManyNodes,
+    BadForm,
+    BadFraction,
+    BadCount,
+    BadPotential,
+    BadCycle,
+    ShortMemory,
+    TooManyLabels,
+    NotAdmitted,
+}
+
+impl Refusal {
+    // Its number.
+    pub fn number(self) -> u64
+        ensures { λ r. ⌜ r ≡ refusalNumber self ⌝ }
+    {
+        match self {
+            Refusal::Plan(f) => f.number(),
+            Refusal::TooManyNodes => 5,
+            Refusal::BadForm => 6,
+            Refusal::BadFraction => 7,
+            Refusal::BadCount => 8,
+            Refusal::BadPotential => 9,
+            Refusal::BadCycle => 10,
+            Refusal::ShortMemory => 11,
+            Refusal::TooManyLabels => 12,
+            Refusal::NotAdmitted => 13,
+        }
+    }
+}
