@@ -1,0 +1,22 @@
+-- Whether a certificate begins with a head.
+use mathlib.Core.Path.{_≡_}
+use mathlib.Core.Bool.{Bool, true}
+use mathlib.Core.List.{List}
+use Prim.Native.Nat.{ℕ}
+use lib.ListN.{length, take}
+use Rattle.model.specs.Limits.{workRoom, certificateRoom}
+use Rattle.model.specs.Solve.{solve}
+use Rattle.solve_text.specs.Bytes.{Puts}
+
+-- r says whether the bytes begin with the head
+abbrev pub Begins : List ℕ → List ℕ → Bool → Type 0
+Begins bytes head r =
+    (r ≡ true → take (length head) bytes ≡ head) × (take (length head) bytes ≡ head → r ≡ true)
+
+-- r says whether what is due for the plan begins with the head; of a certificate the cycle is free
+pub record Compared (plan head : List ℕ) (r : Bool) : Type 0 where
+  pub before : List ℕ
+  pub after : List ℕ
+  pub size : ℕ
+  pub written : Puts (solve plan workRoom certificateRoom) before after size
+  pub begins : Begins (take size after) head r

@@ -1,0 +1,45 @@
+// Runs each case of cases.bin, and writes what its kind writes for it. The file has the number of cases in two bytes, and then
+// for each one byte with its kind and its fields, each behind two bytes of its length.
+mod checks; // checks.rt: a plan and a certificate
+mod plans; // plans.rt: a plan
+mod solves; // solves.rt: a plan and the head of its certificate
+mod traces; // traces.rt: a plan and its labels
+
+use libc::STDOUT_FILENO;
+
+const PLAN: u8 = 1;
+
+const TRACE: u8 = 2;
+
+const CHECK: u8 = 3;
+
+const SOLVE: u8 = 4;
+
+fn main() {
+    let mut count = [0u8; 2];
+    let file = os::open_read(b"cases.bin");
+    io::read_full(file, &mut count);
+    let mut left = words::read_u16(&count, 0);
+    while 0 < left {
+        let mut kind = [0u8; 1];
+        io::read_full(file, &mut kind);
+        match kind[0] {
+            PLAN => {
+                plans::plan_case(file);
+            }
+            TRACE => {
+                traces::trace_case(file);
+            }
+            CHECK => {
+                checks::check_case(file);
+            }
+            SOLVE => {
+                solves::solve_case(file);
+            }
+            _ => {
+                io::write_all(STDOUT_FILENO, b"unknown kind\n");
+            }
+        }
+        left -= 1;
+    }
+}
