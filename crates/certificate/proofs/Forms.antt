@@ -16,7 +16,7 @@ use Rattle.model.specs.Certificate.{Certificate, has, readPotentials, readSteps
 use Rattle.certificate.specs.declared.Cursor.{Cursor}
 use Rattle.certificate.specs.declared.Run.{Run}
 use Rattle.certificate.specs.declared.Run.the-variants.{Fault, Items}
-use Rattle.certificate.specs.View.{headCommand, nodeCommand, headSize, potentialSize, cycleSize, stepSize, potentialIn, stepIn, pIn, qIn, countIn, nodeIn, items, potentialsIn, stepsIn, runOf, cycleFrom}
+use Rattle.certificate.specs.View.{headCommand, nodeCommand, headSize, potentialSize, cycleSize, stepSize, potentialIn, stepIn, pIn, qIn, potentialCountIn, cycleNodeIn, items, potentialsIn, stepsIn, runOf, cycleFrom}
 use Rattle.certificate.proofs.Runs.{items-length}
 
 -- ---- the cycle
@@ -25,7 +25,7 @@ module _ (bs : List ℕ) (p q n at : ℕ) where
   pub cycle-missing : has (drop at bs) nodeCommand cycleSize ≡ false → none ≡ cycleFrom bs p q n at
   cycle-missing e =
       sym
-      (λ i. cond (e i) (withSteps p q (potentialsIn bs n) (nodeIn (drop at bs) 0) (readSteps maxSteps (drop cycleSize (drop at bs)))) none)
+      (λ i. cond (e i) (withSteps p q (potentialsIn bs n) (cycleNodeIn (drop at bs) 0) (readSteps maxSteps (drop cycleSize (drop at bs)))) none)
 
   module _ (here : has (drop at bs) nodeCommand cycleSize ≡ true) (from : ℕ) (place : from ≡ at + cycleSize) (r : Run)
       (read : runOf bs (stepIn bs) from stepSize r ≡ readSteps maxSteps (drop from bs)) where
@@ -34,11 +34,11 @@ module _ (bs : List ℕ) (p q n at : ℕ) where
     withCycle v m = record { p = p; q = q; potentials = potentialsIn bs n; node = v; steps = stepsIn bs from m }
 
     -- by the run of steps
-    by-steps : {u : Run} → r ≡ u → cycleFrom bs p q n at ≡ withSteps p q (potentialsIn bs n) (nodeIn bs at) (runOf bs (stepIn bs) from stepSize u)
+    by-steps : {u : Run} → r ≡ u → cycleFrom bs p q n at ≡ withSteps p q (potentialsIn bs n) (cycleNodeIn bs at) (runOf bs (stepIn bs) from stepSize u)
     by-steps k =
         (λ i. cond (here i) (withSteps p q (potentialsIn bs n) (number (take 2 (drop-drop 1 at bs i))) (readSteps maxSteps (drop-drop cycleSize at bs i))) none)
-        ∙ ap (λ (m : ℕ). withSteps p q (potentialsIn bs n) (nodeIn bs at) (readSteps maxSteps (drop m bs))) (sym place)
-        ∙ ap (withSteps p q (potentialsIn bs n) (nodeIn bs at)) (sym read ∙ ap (runOf bs (stepIn bs) from stepSize) k)
+        ∙ ap (λ (m : ℕ). withSteps p q (potentialsIn bs n) (cycleNodeIn bs at) (readSteps maxSteps (drop m bs))) (sym place)
+        ∙ ap (withSteps p q (potentialsIn bs n) (cycleNodeIn bs at)) (sym read ∙ ap (runOf bs (stepIn bs) from stepSize) k)
 
     pub cycle-fault : r ≡ Fault → none ≡ cycleFrom bs p q n at
     cycle-fault k = sym (by-steps k)
@@ -46,16 +46,16 @@ module _ (bs : List ℕ) (p q n at : ℕ) where
     module _ (m : ℕ) (end : Cursor) (k : r ≡ Items m end) where
       -- by how many they are
       by-count : {b : Bool} → ltb 0 m ≡ b →
-          cycleFrom bs p q n at ≡ cond (isEnd (drop (end .at) bs) && b) (some (withCycle (nodeIn bs at) m)) none
+          cycleFrom bs p q n at ≡ cond (isEnd (drop (end .at) bs) && b) (some (withCycle (cycleNodeIn bs at) m)) none
       by-count e =
           by-steps k
-          ∙ ap (λ t. cond (isEnd (drop (end .at) bs) && t) (some (withCycle (nodeIn bs at) m)) none)
+          ∙ ap (λ t. cond (isEnd (drop (end .at) bs) && t) (some (withCycle (cycleNodeIn bs at) m)) none)
           (ap (ltb 0) (items-length (stepIn bs) from stepSize m) ∙ e)
 
       pub cycle-empty : m ≡ 0 → none ≡ cycleFrom bs p q n at
-      cycle-empty z = sym (by-count (le-ltb 0 m (omega arith)) ∙ ap (λ t. cond t (some (withCycle (nodeIn bs at) m)) none) (and-false (isEnd (drop (end .at) bs))))
+      cycle-empty z = sym (by-count (le-ltb 0 m (omega arith)) ∙ ap (λ t. cond t (some (withCycle (cycleNodeIn bs at) m)) none) (and-false (isEnd (drop (end .at) bs))))
 
-      pub cycle-read : (m ≡ 0 → ⊥) → (v : ℕ) → v ≡ nodeIn bs at →
+      pub cycle-read : (m ≡ 0 → ⊥) → (v : ℕ) → v ≡ cycleNodeIn bs at →
           cond (isEnd (drop (end .at) bs)) (some (withCycle v m)) none ≡ cycleFrom bs p q n at
       cycle-read h v e =
           sym (by-count (lt-ltb 0 m (omega arith)) ∙ ap₂ (λ t (u : ℕ). cond t (some (withCycle u m)) none) (and-true (isEnd (drop (end .at) bs))) (sym e))
@@ -64,17 +64,17 @@ module _ (bs : List ℕ) (p q n at : ℕ) where
 
 module _ (bs : List ℕ) where
   -- by the head's tests
-  by-head : {a b c : Bool} → has bs headCommand headSize ≡ a → leb 1 (countIn bs) ≡ b → leb (countIn bs) maxNodes ≡ c →
+  by-head : {a b c : Bool} → has bs headCommand headSize ≡ a → leb 1 (potentialCountIn bs) ≡ b → leb (potentialCountIn bs) maxNodes ≡ c →
       readCertificate bs ≡ cond (a && b && c)
-      (withPotentials (pIn bs) (qIn bs) (readPotentials (countIn bs) (drop headSize bs))) none
+      (withPotentials (pIn bs) (qIn bs) (readPotentials (potentialCountIn bs) (drop headSize bs))) none
   unfolding readCertificate
   by-head e f g =
-      λ i. cond (e i && f i && g i) (withPotentials (pIn bs) (qIn bs) (readPotentials (countIn bs) (drop headSize bs))) none
+      λ i. cond (e i && f i && g i) (withPotentials (pIn bs) (qIn bs) (readPotentials (potentialCountIn bs) (drop headSize bs))) none
 
   pub head-missing : has bs headCommand headSize ≡ false → none ≡ readCertificate bs
   head-missing e = sym (by-head e refl refl)
 
-  module _ (here : has bs headCommand headSize ≡ true) (n : ℕ) (isN : n ≡ countIn bs) where
+  module _ (here : has bs headCommand headSize ≡ true) (n : ℕ) (isN : n ≡ potentialCountIn bs) where
     pub no-nodes : n < 1 → none ≡ readCertificate bs
     no-nodes h = sym (by-head here (ap (leb 1) (sym isN) ∙ lt-leb 1 n h) refl)
 

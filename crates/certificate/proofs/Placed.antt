@@ -21,7 +21,7 @@ use Rattle.model.proofs.Plan.{both}
 use Rattle.words.proofs.Memory.{part-length}
 use Rattle.theory.proofs.Reread.{cond-some, cons-some}
 use Rattle.certificate.specs.declared.Parts.{Parts}
-use Rattle.certificate.specs.View.{headCommand, stepCommand, potentialCommand, nodeCommand, masksWidth, headSize, potentialSize, cycleSize, stepSize, potentialIn, stepIn, pIn, qIn, countIn, nodeIn, items, potentialsIn, certificateOf, IsRead, HasPotential, stepAt}
+use Rattle.certificate.specs.View.{headCommand, stepCommand, potentialCommand, nodeCommand, masksWidth, headSize, potentialSize, cycleSize, stepSize, potentialIn, stepIn, pIn, qIn, potentialCountIn, cycleNodeIn, items, potentialsIn, certificateOf, IsRead, HasPotential, stepAt}
 use Rattle.certificate.proofs.Runs.{Reached, reached-start, reached-next, reached-all, reached-fault, has-room, potential-next, potential-fault, items-length, items-at}
 
 -- ---- the potentials
@@ -131,29 +131,29 @@ module _ (bs : List ℕ) (p q : ℕ) (zs : List ℤ) (h : PlacedPotentials bs zs
       bare = record { p = p; q = q; potentials = zs; node = 0; steps = [] }
 
       full : Option Certificate
-      full = withSteps p q zs (nodeIn rest 0) (readSteps maxSteps (drop cycleSize rest))
+      full = withSteps p q zs (cycleNodeIn rest 0) (readSteps maxSteps (drop cycleSize rest))
 
       by : (b : Bool) → cond b (cond (isEnd rest) (some bare) none) (cond (has rest nodeCommand cycleSize) full none) ≡ some c → Placed bs c
       by true k =
           subst (Placed bs) (Option·some-injective _ _ (cond-some (isEnd rest) (some bare) k .1))
           (with-steps 0 [] (omega arith) (λ j h. absurd (not-suc-le-zero h)))
-      by false k = placed-steps c (nodeIn rest 0) (drop cycleSize rest) _ refl (cond-some (has rest nodeCommand cycleSize) full k .1)
+      by false k = placed-steps c (cycleNodeIn rest 0) (drop cycleSize rest) _ refl (cond-some (has rest nodeCommand cycleSize) full k .1)
 
 pub placed : (bs : List ℕ) (c : Certificate) → readCertificate bs ≡ some c → Placed bs c
 unfolding readCertificate
 placed bs c e =
-    let n = countIn bs in
+    let n = potentialCountIn bs in
     let three = cond-some (has bs headCommand headSize && leb 1 n && leb n maxNodes) (withPotentials (pIn bs) (qIn bs) (readPotentials n (drop headSize bs))) e in
     let two = both (has bs headCommand headSize && leb 1 n) (leb n maxNodes) (three .0) in
     let one = both (has bs headCommand headSize) (leb 1 n) (two .0) in
     by (has-room bs 0 headCommand headSize (omega arith) (one .0)) (leb-true 1 n (one .1)) (leb-true n maxNodes (two .1)) (readPotentials n (drop headSize bs)) refl (three .1)
   where
-    by : 0 + headSize ≤ length bs → 1 ≤ countIn bs → countIn bs ≤ maxNodes → (o : Option (Parsed (List ℤ))) → readPotentials (countIn bs) (drop headSize bs) ≡ o →
+    by : 0 + headSize ≤ length bs → 1 ≤ potentialCountIn bs → potentialCountIn bs ≤ maxNodes → (o : Option (Parsed (List ℤ))) → readPotentials (potentialCountIn bs) (drop headSize bs) ≡ o →
         withPotentials (pIn bs) (qIn bs) o ≡ some c → Placed bs c
     by room low high none k f = absurd (Option·none-ne-some c f)
     by room low high (some r) k f =
-        let w = potentials-placed bs headSize (countIn bs) (omega arith) r k in
-        let size : length (r .value) ≡ countIn bs = ap length (w .1) ∙ items-length (potentialIn bs) headSize potentialSize (countIn bs) in
+        let w = potentials-placed bs headSize (potentialCountIn bs) (omega arith) r k in
+        let size : length (r .value) ≡ potentialCountIn bs = ap length (w .1) ∙ items-length (potentialIn bs) headSize potentialSize (potentialCountIn bs) in
         placed-rest bs (pIn bs) (qIn bs) (r .value)
         (record { some = omega arith; few = omega arith; inside = rw size (w .0); potentials = w .1 ∙ ap (potentialsIn bs) (sym size) })
         c (r .rest) f

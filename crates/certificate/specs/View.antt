@@ -2,23 +2,19 @@
 use mathlib.Core.Path.{_≡_}
 use Prim.Native.Nat.{ℕ, _+_, _*_, _≤_, _<_}
 use mathlib.Core.Bool.{cond}
-use mathlib.Core.List.{List, [], _∷_, _++_, map}
+use mathlib.Core.List.{List, [], map}
 use mathlib.Core.Option.{Option, none, some}
 use lib.IntN.{ℤ}
 use lib.ListN.{length, getD, drop}
 use Rattle.model.specs.Limits.{maxTasks, maxSteps}
 use Rattle.model.specs.Lists.{upFrom}
-use Rattle.model.specs.Bytes.{number, bytes, signed, part}
+use Rattle.model.specs.Bytes.{number, signed, part}
 use Rattle.model.specs.Certificate.{Certificate, Step, Parsed, has, withSteps, readSteps, readCertificate}
 use Rattle.certificate.specs.declared.Parts.{Parts}
 use Rattle.certificate.specs.declared.Form.{Form}
 use Rattle.certificate.specs.declared.Form.the-variants.{Fault, Read}
 use Rattle.certificate.specs.declared.Run.{Run}
 use Rattle.certificate.specs.declared.Run.the-variants as run
-use Rattle.certificate.specs.declared.Permille.{Permille}
-use Rattle.certificate.specs.declared.Permille.the-variants as permille
-
--- ---- the form
 
 -- the commands
 abbrev pub headCommand : ℕ
@@ -63,11 +59,11 @@ pIn bs = number (part bs 1 4)
 abbrev pub qIn : List ℕ → ℕ
 qIn bs = number (part bs 5 4)
 
-abbrev pub countIn : List ℕ → ℕ
-countIn bs = number (part bs 9 2)
+abbrev pub potentialCountIn : List ℕ → ℕ
+potentialCountIn bs = number (part bs 9 2)
 
-abbrev pub nodeIn : List ℕ → ℕ → ℕ
-nodeIn bs at = number (part bs (at + 1) 2)
+abbrev pub cycleNodeIn : List ℕ → ℕ → ℕ
+cycleNodeIn bs at = number (part bs (at + 1) 2)
 
 -- the potential, and the step, whose command is at a place
 abbrev pub potentialIn : List ℕ → ℕ → ℤ
@@ -122,20 +118,4 @@ Inside bs (run.Items n cursor) = cursor .at ≤ length bs
 abbrev pub cycleFrom : List ℕ → ℕ → ℕ → ℕ → ℕ → Option Certificate
 cycleFrom bs p q n at =
     let rest = drop at bs in
-    cond (has rest nodeCommand cycleSize) (withSteps p q (potentialsIn bs n) (nodeIn rest 0) (readSteps maxSteps (drop cycleSize rest))) none
-
--- the pieces that are written of the head, of the cycle's start and of the end
-abbrev pub headBytes : ℕ → ℕ → ℕ → List ℕ
-headBytes p q n = (headCommand ∷ bytes 4 p) ++ bytes 4 q ++ bytes 2 n
-
-abbrev pub nodeBytes : ℕ → List ℕ
-nodeBytes v = nodeCommand ∷ bytes 2 v
-
-abbrev pub endBytes : List ℕ
-endBytes = endCommand ∷ []
-
--- ---- the fraction
-
-abbrev pub permilleOf : Permille → Option ℕ
-permilleOf permille.None = none
-permilleOf (permille.Some n) = some n
+    cond (has rest nodeCommand cycleSize) (withSteps p q (potentialsIn bs n) (cycleNodeIn rest 0) (readSteps maxSteps (drop cycleSize rest))) none
