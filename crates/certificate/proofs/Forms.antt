@@ -4,20 +4,27 @@ use mathlib.Core.Path.{_≡_, refl, sym, ap, ap₂, _∙_}
 use mathlib.Core.Bool.{Bool, true, false, cond, _&&_, and-false, and-true}
 use mathlib.Core.List.{List, []}
 use mathlib.Core.Option.{none, some}
-use Prim.Native.Nat.{ℕ, _+_, _≤_, _<_}
+use Prim.Native.Nat.{ℕ, _+_, _*_, _≤_, _<_}
 use native.Mathlib.Omega.{arith}
 use borrow.Author.Tests.{lt-ltb, le-ltb, le-leb, lt-leb, eq-eqb, ne-eqb}
 use lib.Dec.{leb, ltb, eqb}
-use lib.ListN.{take, drop}
+use lib.ListN.{length, take, drop}
 use lib.Seq.{drop-drop}
 use Rattle.model.specs.Limits.{maxNodes, maxSteps}
 use Rattle.model.specs.Bytes.{number}
 use Rattle.model.specs.Certificate.{Certificate, has, readPotentials, readSteps, isEnd, withSteps, withPotentials, readCertificate}
 use Rattle.certificate.specs.declared.Cursor.{Cursor}
+use Rattle.certificate.specs.declared.Parts.{Parts}
+use Rattle.certificate.specs.declared.Form.the-variants.{Fault, Read}
 use Rattle.certificate.specs.declared.Run.{Run}
-use Rattle.certificate.specs.declared.Run.the-variants.{Fault, Items}
-use Rattle.certificate.specs.View.{headCommand, nodeCommand, headSize, potentialSize, cycleSize, stepSize, potentialIn, stepIn, pIn, qIn, potentialCountIn, cycleNodeIn, items, potentialsIn, stepsIn, runOf, cycleFrom}
+use Rattle.certificate.specs.declared.Run.the-variants as run
+use Rattle.certificate.specs.View.{headCommand, nodeCommand, headSize, potentialSize, cycleSize, stepSize, potentialIn, stepIn, pIn, qIn, potentialCountIn, cycleNodeIn, potentialsIn, stepsIn, stepsPlace, partsOf, inPlace, runOf, endedAt, cycleFrom}
 use Rattle.certificate.proofs.Runs.{items-length}
+
+-- the parts are those of the certificate, where it ends
+pub ended-parts : (b : Bool) (c : Certificate) (parts : Parts) → parts ≡ partsOf c → cond b (Read parts) Fault ≡ inPlace (cond b (some c) none)
+ended-parts true c parts e = ap Read e
+ended-parts false c parts e = refl
 
 -- ---- the cycle
 
@@ -40,10 +47,10 @@ module _ (bs : List ℕ) (p q n at : ℕ) where
         ∙ ap (λ (m : ℕ). withSteps p q (potentialsIn bs n) (cycleNodeIn bs at) (readSteps maxSteps (drop m bs))) (sym place)
         ∙ ap (withSteps p q (potentialsIn bs n) (cycleNodeIn bs at)) (sym read ∙ ap (runOf bs (stepIn bs) from stepSize) k)
 
-    pub cycle-fault : r ≡ Fault → none ≡ cycleFrom bs p q n at
+    pub cycle-fault : r ≡ run.Fault → none ≡ cycleFrom bs p q n at
     cycle-fault k = sym (by-steps k)
 
-    module _ (m : ℕ) (end : Cursor) (k : r ≡ Items m end) where
+    module _ (m : ℕ) (end : Cursor) (k : r ≡ run.Items m end) where
       -- by how many they are
       by-count : {b : Bool} → ltb 0 m ≡ b →
           cycleFrom bs p q n at ≡ cond (isEnd (drop (end .at) bs) && b) (some (withCycle (cycleNodeIn bs at) m)) none
@@ -56,9 +63,21 @@ module _ (bs : List ℕ) (p q n at : ℕ) where
       cycle-empty z = sym (by-count (le-ltb 0 m (omega arith)) ∙ ap (λ t. cond t (some (withCycle (cycleNodeIn bs at) m)) none) (and-false (isEnd (drop (end .at) bs))))
 
       pub cycle-read : (m ≡ 0 → ⊥) → (v : ℕ) → v ≡ cycleNodeIn bs at →
-          cond (isEnd (drop (end .at) bs)) (some (withCycle v m)) none ≡ cycleFrom bs p q n at
-      cycle-read h v e =
-          sym (by-count (lt-ltb 0 m (omega arith)) ∙ ap₂ (λ t (u : ℕ). cond t (some (withCycle u m)) none) (and-true (isEnd (drop (end .at) bs))) (sym e))
+          at ≡ headSize + potentialSize * n → (q ≡ 0 → ⊥) →
+          endedAt bs (end .at) (record { p = p; q = q; count = n; node = v; from = from; steps = m }) ≡ inPlace (cycleFrom bs p q n at)
+      cycle-read h v e after above =
+          ended-parts (isEnd (drop (end .at) bs)) (withCycle v m) _ (λ i. record { p = p; q = q; count = count i; node = v; from = start i; steps = steps i })
+          ∙ ap inPlace
+          (sym (by-count (lt-ltb 0 m (omega arith)) ∙ ap₂ (λ t (u : ℕ). cond t (some (withCycle u m)) none) (and-true (isEnd (drop (end .at) bs))) (sym e)))
+        where
+          count : n ≡ length (potentialsIn bs n)
+          count = sym (items-length (potentialIn bs) headSize potentialSize n)
+
+          steps : m ≡ length (stepsIn bs from m)
+          steps = sym (items-length (stepIn bs) from stepSize m)
+
+          start : from ≡ stepsPlace (withCycle v m)
+          start = omega (arith, place, after, count, ap (λ b. cond b 0 cycleSize) (ne-eqb q 0 above))
 
 -- ---- the certificate
 
@@ -90,10 +109,10 @@ module _ (bs : List ℕ) where
           ∙ sym (λ i. withPotentials (isP i) (isQ i) (readPotentials (isN i) (drop headSize bs)))
           ∙ ap (withPotentials p q) (sym read ∙ ap (runOf bs (potentialIn bs) headSize potentialSize) k)
 
-      pub potentials-fault : r ≡ Fault → none ≡ readCertificate bs
+      pub potentials-fault : r ≡ run.Fault → none ≡ readCertificate bs
       potentials-fault k = sym (by-potentials k)
 
-      module _ (m : ℕ) (end : Cursor) (k : r ≡ Items m end) where
+      module _ (m : ℕ) (end : Cursor) (k : r ≡ run.Items m end) where
         -- by whether there is a cycle
         by-cycle : {b : Bool} → eqb q 0 ≡ b →
             readCertificate bs ≡ cond b (cond (isEnd (drop (end .at) bs)) (some (record { p = p; q = q; potentials = potentialsIn bs m; node = 0; steps = [] })) none)
@@ -106,8 +125,14 @@ module _ (bs : List ℕ) where
         pub with-cycle : (q ≡ 0 → ⊥) → cycleFrom bs p q m (end .at) ≡ readCertificate bs
         with-cycle h = sym (by-cycle (ne-eqb q 0 h))
 
-        pub without-cycle : q ≡ 0 →
-            cond (isEnd (drop (end .at) bs)) (some (record { p = p; q = q; potentials = potentialsIn bs m; node = 0; steps = stepsIn bs (end .at) 0 })) none
-            ≡ readCertificate bs
-        unfolding items
-        without-cycle z = sym (by-cycle (eq-eqb q 0 z))
+        pub without-cycle : q ≡ 0 → end .at ≡ headSize + potentialSize * m →
+            endedAt bs (end .at) (record { p = p; q = q; count = m; node = 0; from = end .at; steps = 0 }) ≡ inPlace (readCertificate bs)
+        without-cycle z after =
+            ended-parts (isEnd (drop (end .at) bs)) _ _ (λ i. record { p = p; q = q; count = count i; node = 0; from = start i; steps = 0 })
+            ∙ ap inPlace (sym (by-cycle (eq-eqb q 0 z)))
+          where
+            count : m ≡ length (potentialsIn bs m)
+            count = sym (items-length (potentialIn bs) headSize potentialSize m)
+
+            start : end .at ≡ headSize + potentialSize * length (potentialsIn bs m) + cond (eqb q 0) 0 cycleSize
+            start = omega (arith, after, count, ap (λ b. cond b 0 cycleSize) (eq-eqb q 0 z))

@@ -4,12 +4,13 @@ use Prim.Native.Nat.{ℕ, _+_, _*_, _≤_, _<_}
 use mathlib.Core.Bool.{cond}
 use mathlib.Core.List.{List, [], map}
 use mathlib.Core.Option.{Option, none, some}
+use lib.Dec.{eqb}
 use lib.IntN.{ℤ}
 use lib.ListN.{length, getD, drop}
 use Rattle.model.specs.Limits.{maxTasks, maxSteps}
 use Rattle.model.specs.Lists.{upFrom}
 use Rattle.model.specs.Bytes.{number, signed, part}
-use Rattle.model.specs.Certificate.{Certificate, Step, Parsed, has, withSteps, readSteps, readCertificate}
+use Rattle.model.specs.Certificate.{Certificate, Step, Parsed, has, isEnd, withSteps, readSteps, readCertificate}
 use Rattle.certificate.specs.declared.Parts.{Parts}
 use Rattle.certificate.specs.declared.Form.{Form}
 use Rattle.certificate.specs.declared.Form.the-variants.{Fault, Read}
@@ -90,6 +91,18 @@ abbrev pub formOf : List ℕ → Form → Option Certificate
 formOf bs Fault = none
 formOf bs (Read c) = some (certificateOf bs c)
 
+-- where a certificate's steps begin: after the potentials, and where there is a cycle after its head
+abbrev pub stepsPlace : Certificate → ℕ
+stepsPlace c = headSize + potentialSize * length (c .potentials) + cond (eqb (c .q) 0) 0 cycleSize
+
+-- its parts
+abbrev pub partsOf : Certificate → Parts
+partsOf c = record { p = c .p; q = c .q; count = length (c .potentials); node = c .node; from = stepsPlace c; steps = length (c .steps) }
+
+abbrev pub inPlace : Option Certificate → Form
+inPlace none = Fault
+inPlace (some c) = Read (partsOf c)
+
 -- the bytes are the certificate with these parts
 abbrev pub IsRead : List ℕ → Parts → Type 0
 IsRead bs c = readCertificate bs ≡ some (certificateOf bs c)
@@ -109,10 +122,14 @@ abbrev pub runOf : {A : Type 0} → List ℕ → (ℕ → A) → ℕ → ℕ →
 runOf bs item from size run.Fault = none
 runOf bs item from size (run.Items n cursor) = some (record { value = items item from size n; rest = drop (cursor .at) bs })
 
--- a run ends within the bytes
-abbrev pub Inside : List ℕ → Run → Type 0
-Inside bs run.Fault = Unit {0}
-Inside bs (run.Items n cursor) = cursor .at ≤ length bs
+-- a run ends after its items, within the bytes
+abbrev pub Inside : List ℕ → ℕ → ℕ → Run → Type 0
+Inside bs from size run.Fault = Unit {0}
+Inside bs from size (run.Items n cursor) = (cursor .at ≡ from + size * n) × (cursor .at ≤ length bs)
+
+-- the parts, where the end stands at a place and nothing after it
+abbrev pub endedAt : List ℕ → ℕ → Parts → Form
+endedAt bs at c = cond (isEnd (drop at bs)) (Read c) Fault
 
 -- the certificate whose cycle starts at a place, after n potentials
 abbrev pub cycleFrom : List ℕ → ℕ → ℕ → ℕ → ℕ → Option Certificate

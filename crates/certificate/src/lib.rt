@@ -1,13 +1,12 @@
 // Certificates: the form, read in place.
 ghost use mathlib.Core.Path.{_≡_};
-ghost use mathlib.Core.Bool.{cond};
-ghost use mathlib.Core.Option.{none, some};
-ghost use Prim.Native.Nat.{_+_, _^_, _≤_, _<_};
+ghost use mathlib.Core.Option.{some};
+ghost use Prim.Native.Nat.{_+_, _*_, _^_, _≤_, _<_};
 ghost use lib.ListN.{length, drop};
 ghost use Rattle.model.specs.Limits.{maxSteps};
 ghost use Rattle.model.specs.Check as check-model;
 ghost use Rattle.model.specs.Certificate as model;
-ghost use Rattle.certificate.specs.View.{potentialSize, stepSize, potentialIn, stepIn, certificateOf, formOf, runOf, Inside, IsRead, HasPotential, stepAt, cycleFrom};
+ghost use Rattle.certificate.specs.View.{headSize, potentialSize, stepSize, potentialIn, stepIn, certificateOf, inPlace, runOf, Inside, IsRead, HasPotential, stepAt, endedAt, cycleFrom};
 
 // The bytes of the head, of a potential, of the cycle's start and of a step, each with its command.
 pub const HEAD_SIZE: usize = 11;
@@ -75,7 +74,7 @@ fn has(s: &[u8], cursor: Cursor, command: u8, n: usize) -> bool
 // The potentials from the cursor on, n of them.
 fn potentials(s: &[u8], from: Cursor, n: usize) -> Run
     requires { ⌜ from .at ≤ length (now s) ⌝ }
-    ensures { λ r. ⌜ Inside (now (s .entry)) r ⌝ }
+    ensures { λ r. ⌜ Inside (now (s .entry)) (from .at) potentialSize r ⌝ }
     ensures { λ r. ⌜ runOf (now (s .entry)) (potentialIn (now (s .entry))) (from .at) potentialSize r ≡ model.readPotentials n (drop (from .at) (now (s .entry))) ⌝ }
 {
     let mut i = 0;
@@ -93,7 +92,7 @@ fn potentials(s: &[u8], from: Cursor, n: usize) -> Run
 // The steps from the cursor on, at most so many as a cycle has.
 fn steps(s: &[u8], from: Cursor) -> Run
     requires { ⌜ from .at ≤ length (now s) ⌝ }
-    ensures { λ r. ⌜ Inside (now (s .entry)) r ⌝ }
+    ensures { λ r. ⌜ Inside (now (s .entry)) (from .at) stepSize r ⌝ }
     ensures { λ r. ⌜ runOf (now (s .entry)) (stepIn (now (s .entry))) (from .at) stepSize r ≡ model.readSteps maxSteps (drop (from .at) (now (s .entry))) ⌝ }
 {
     let mut i = 0;
@@ -114,7 +113,7 @@ fn steps(s: &[u8], from: Cursor) -> Run
 // The parts, if the end stands at the cursor and nothing after it.
 fn ended(s: &[u8], cursor: Cursor, parts: Parts) -> Form
     requires { ⌜ cursor .at ≤ length (now s) ⌝ }
-    ensures { λ r. ⌜ formOf (now (s .entry)) r ≡ cond (model.isEnd (drop (cursor .at) (now (s .entry)))) (some (certificateOf (now (s .entry)) parts)) none ⌝ }
+    ensures { λ r. ⌜ r ≡ endedAt (now (s .entry)) (cursor .at) parts ⌝ }
 {
     let at = cursor.at;
     if s.len() - at != 1 {
@@ -126,10 +125,10 @@ fn ended(s: &[u8], cursor: Cursor, parts: Parts) -> Form
     Form::Read(parts)
 }
 
-// A cycle from the cursor on, after so many potentials.
+// The certificate whose cycle starts at the cursor, after so many potentials.
 fn cycle(s: &[u8], p: u32, q: u32, count: usize, cursor: Cursor) -> Form
-    requires { ⌜ cursor .at ≤ length (now s) ⌝ }
-    ensures { λ r. ⌜ formOf (now (s .entry)) r ≡ cycleFrom (now (s .entry)) p q count (cursor .at) ⌝ }
+    requires { ⌜ (cursor .at ≡ headSize + potentialSize * count) × (cursor .at ≤ length (now s)) × (q ≡ 0 → ⊥) ⌝ }
+    ensures { λ r. ⌜ r ≡ inPlace (cycleFrom (now (s .entry)) p q count (cursor .at)) ⌝ }
 {
     if !has(s, cursor, 0x13, CYCLE_SIZE) {
         return Form::Fault;
@@ -158,7 +157,7 @@ fn cycle(s: &[u8], p: u32, q: u32, count: usize, cursor: Cursor) -> Form
 
 // The certificate that the bytes are.
 pub fn read(s: &[u8]) -> Form
-    ensures { λ r. ⌜ formOf (now (s .entry)) r ≡ model.readCertificate (now (s .entry)) ⌝ }
+    ensures { λ r. ⌜ r ≡ inPlace (model.readCertificate (now (s .entry))) ⌝ }
 {
     let start = Cursor { at: 0 };
     if !has(s, start, 0x11, HEAD_SIZE) {
