@@ -1,5 +1,3 @@
 pub mod Forms
-pub mod Pieces
 pub mod Placed
 pub mod Runs
-pub mod Least

@@ -12,7 +12,8 @@ use native.Mathlib.Omega.{arith}
 use borrow.Author.Tests.{leb-true}
 use lib.Dec.{leb, ltb, eqb}
 use lib.IntN.{ℤ, pos}
-use lib.ListN.{length, getD, drop, length-take, length-drop}
+use lib.ListN.{length, getD, take, drop, length-take, length-drop}
+use lib.Seq.{drop-drop, getD-drop, ext-getD}
 use Rattle.model.specs.Limits.{maxNodes, maxSteps}
 use Rattle.model.specs.Bytes.{part}
 use Rattle.model.specs.Certificate.{Certificate, Step, Parsed, consParsed, has, readPotentials, readSteps, isEnd, withSteps, withPotentials, readCertificate}
@@ -21,7 +22,8 @@ use Rattle.model.proofs.Plan.{both}
 use Rattle.words.proofs.Memory.{part-length}
 use Rattle.theory.proofs.Reread.{cond-some, cons-some}
 use Rattle.certificate.specs.declared.Parts.{Parts}
-use Rattle.certificate.specs.View.{headCommand, stepCommand, potentialCommand, nodeCommand, masksWidth, headSize, potentialSize, cycleSize, stepSize, potentialIn, stepIn, pIn, qIn, countIn, nodeIn, items, potentialsIn, certificateOf, IsRead, HasPotential, stepAt}
+use Rattle.certificate.specs.declared.Form.{Form}
+use Rattle.certificate.specs.View.{headCommand, stepCommand, potentialCommand, nodeCommand, masksWidth, headSize, potentialSize, cycleSize, stepSize, potentialIn, stepIn, pIn, qIn, potentialCountIn, cycleNodeIn, items, potentialsIn, stepsIn, certificateOf, formOf, stepsPlace, partsOf, inPlace, IsRead, HasPotential, stepAt}
 use Rattle.certificate.proofs.Runs.{Reached, reached-start, reached-next, reached-all, reached-fault, has-room, potential-next, potential-fault, items-length, items-at}
 
 -- ---- the potentials
@@ -44,14 +46,13 @@ module _ (bs : List ℕ) (from n : ℕ) (fits : from ≤ length bs) (r : Parsed 
       subst (λ (k : ℕ). At k (from + potentialSize * suc i)) (add-one i)
       (subst (At (i + 1)) (omega arith) (turn i at (omega arith) (reached i (omega arith)) (has (drop at bs) potentialCommand potentialSize) refl))
 
-  -- they stand within the bytes, and are those in place
-  potentials-placed : (from + potentialSize * n ≤ length bs) × (r .value ≡ items (potentialIn bs) from potentialSize n)
+  -- they stand within the bytes, are those in place, and the rest follows them
+  potentials-placed : (from + potentialSize * n ≤ length bs) × (r .value ≡ items (potentialIn bs) from potentialSize n) × (r .rest ≡ drop (from + potentialSize * n) bs)
   unfolding readPotentials
   potentials-placed =
-      let all = reached n (omega arith) in (
-        all .inside,
-        sym (ap (λ s. s .value) (Option·some-injective _ _ (reached-all readPotentials (potentialIn bs) bs from potentialSize n n _ all (omega arith) refl ∙ read))),
-      )
+      let all = reached n (omega arith) in
+      let same = sym (Option·some-injective _ _ (reached-all readPotentials (potentialIn bs) bs from potentialSize n n _ all (omega arith) refl ∙ read)) in
+      (all .inside, ap (λ s. s .value) same, ap (λ s. s .rest) same)
 
 -- ---- the steps
 
@@ -72,20 +73,32 @@ first-step n l r e = by (eqb (getD l 0 0) stepCommand) e
         inr (t .0, t .1, leb-true stepSize (length l) (two .0), ap (λ u. u .value) (sym (t .2)))
     by false k = inl (ap (λ u. u .value) (sym (Option·some-injective _ _ k)))
 
--- each has all its masks
-steps-full : (n : ℕ) (l : List ℕ) (r : Parsed (List Step)) → readSteps n l ≡ some r → (j : ℕ) → j < length (r .value) →
-    length (stepAt (r .value) j .masks) ≡ masksWidth
+-- a step further on
+step-further : (l : List ℕ) (m at : ℕ) → stepIn (drop m l) at ≡ stepIn l (m + at)
+step-further l m at =
+    let one : m + (at + 1) ≡ m + at + 1 = omega arith in
+    let two : m + (at + 2) ≡ m + at + 2 = omega arith in
+    (λ i. record { label = getD-drop m l (at + 1) 0 i; masks = take masksWidth (drop-drop (at + 2) m l i) })
+    ∙ (λ i. record { label = getD l (one i) 0; masks = part l (two i) masksWidth })
+
+-- each stands within the bytes, and is the one in place
+steps-placed : (n : ℕ) (l : List ℕ) (r : Parsed (List Step)) → readSteps n l ≡ some r → (j : ℕ) → j < length (r .value) →
+    (stepSize * j + stepSize ≤ length l) × (stepAt (r .value) j ≡ stepIn l (stepSize * j))
 unfolding readSteps
-steps-full zero l r e j h = absurd (not-suc-le-zero (subst (λ s. j < length (s .value)) (sym (Option·some-injective _ _ e)) h))
-steps-full (suc n) l r e j h =
+steps-placed zero l r e j h = absurd (not-suc-le-zero (subst (λ s. j < length (s .value)) (sym (Option·some-injective _ _ e)) h))
+steps-placed (suc n) l r e j h =
     ⊎-elim (λ z. absurd (not-suc-le-zero (rw z at h)))
-    (λ t. subst (λ ss. length (stepAt ss j .masks) ≡ masksWidth) (sym (t .3)) (at (t .0 .value) j (t .2) (steps-full n (drop stepSize l) (t .0) (t .1)) (rw (t .3) at h)))
+    (λ t. subst (λ ss. (stepSize * j + stepSize ≤ length l) × (stepAt ss j ≡ stepIn l (stepSize * j))) (sym (t .3))
+    (at (t .0 .value) j (t .2) (steps-placed n (drop stepSize l) (t .0) (t .1)) (rw (t .3) at h)))
     (first-step n l r e)
   where
-    at : (ss : List Step) (k : ℕ) → stepSize ≤ length l → ((i : ℕ) → i < length ss → length (stepAt ss i .masks) ≡ masksWidth) →
-        k < suc (length ss) → length (stepAt (stepIn l 0 ∷ ss) k .masks) ≡ masksWidth
-    at ss zero fits later below = part-length l 2 masksWidth fits
-    at ss (suc k) fits later below = later k (le-of-suc-le-suc below)
+    at : (ss : List Step) (k : ℕ) → stepSize ≤ length l →
+        ((i : ℕ) → i < length ss → (stepSize * i + stepSize ≤ length (drop stepSize l)) × (stepAt ss i ≡ stepIn (drop stepSize l) (stepSize * i))) →
+        k < suc (length ss) → (stepSize * k + stepSize ≤ length l) × (stepAt (stepIn l 0 ∷ ss) k ≡ stepIn l (stepSize * k))
+    at ss zero fits later below = (fits, refl)
+    at ss (suc k) fits later below =
+        let w = later k (le-of-suc-le-suc below) in
+        (omega (arith, w .0, length-drop stepSize l), w .1 ∙ step-further l stepSize (stepSize * k) ∙ ap (stepIn l) (omega arith))
 
 -- they are no more than asked for
 steps-few : (n : ℕ) (l : List ℕ) (r : Parsed (List Step)) → readSteps n l ≡ some r → length (r .value) ≤ n
@@ -96,69 +109,115 @@ steps-few (suc n) l r e =
 
 -- ---- the certificate
 
--- the counts are within their limits, the potentials are those in place, and the steps have all their masks
+-- the counts are within their limits, the potentials and the steps are those in place, and the steps have all their masks
 pub record Placed (bs : List ℕ) (c : Certificate) : Type 0 where
   pub some : 1 ≤ length (c .potentials)
   pub few : length (c .potentials) ≤ maxNodes
   pub fewSteps : length (c .steps) ≤ maxSteps
   pub inside : headSize + potentialSize * length (c .potentials) ≤ length bs
   pub potentials : c .potentials ≡ potentialsIn bs (length (c .potentials))
+  pub steps : c .steps ≡ stepsIn bs (stepsPlace c) (length (c .steps))
   pub full : (j : ℕ) → j < length (c .steps) → length (stepAt (c .steps) j .masks) ≡ masksWidth
 
--- the same of the potentials alone
+-- the same of the potentials alone, and of the steps alone
 record PlacedPotentials (bs : List ℕ) (zs : List ℤ) : Type 0 where
   some : 1 ≤ length zs
   few : length zs ≤ maxNodes
   inside : headSize + potentialSize * length zs ≤ length bs
   potentials : zs ≡ potentialsIn bs (length zs)
 
+record PlacedSteps (bs : List ℕ) (from : ℕ) (ss : List Step) : Type 0 where
+  few : length ss ≤ maxSteps
+  steps : ss ≡ stepsIn bs from (length ss)
+  full : (j : ℕ) → j < length ss → length (stepAt ss j .masks) ≡ masksWidth
+
+steps-read : (bs : List ℕ) (from : ℕ) (r : Parsed (List Step)) → readSteps maxSteps (drop from bs) ≡ some r → PlacedSteps bs from (r .value)
+steps-read bs from r e = record {
+  few = steps-few maxSteps (drop from bs) r e;
+  steps =
+      ext-getD (record { label = 0; masks = [] }) (r .value) (stepsIn bs from n) (sym (items-length (stepIn bs) from stepSize n))
+      (λ j h. each j h .1 ∙ step-further bs from (stepSize * j) ∙ sym (items-at (stepIn bs) from stepSize n j (record { label = 0; masks = [] }) h));
+  full = λ j h. ap (λ s. length (s .masks)) (each j h .1) ∙ part-length (drop from bs) (stepSize * j + 2) masksWidth (omega (arith, each j h .0));
+}
+  where
+    n : ℕ
+    n = length (r .value)
+
+    each : (j : ℕ) → j < n → (stepSize * j + stepSize ≤ length (drop from bs)) × (stepAt (r .value) j ≡ stepIn (drop from bs) (stepSize * j))
+    each = steps-placed maxSteps (drop from bs) r e
+
 module _ (bs : List ℕ) (p q : ℕ) (zs : List ℤ) (h : PlacedPotentials bs zs) where
-  with-steps : (v : ℕ) (ss : List Step) → length ss ≤ maxSteps → ((j : ℕ) → j < length ss → length (stepAt ss j .masks) ≡ masksWidth) →
-      Placed bs (record { p = p; q = q; potentials = zs; node = v; steps = ss })
-  with-steps v ss few full =
-      record { some = h .some; few = h .few; fewSteps = few; inside = h .inside; potentials = h .potentials; full = full }
+  -- after the potentials, and after the head of a cycle
+  abbrev place : Bool → ℕ
+  place b = headSize + potentialSize * length zs + cond b 0 cycleSize
 
-  placed-steps : (c : Certificate) (v : ℕ) (l : List ℕ) (o : Option (Parsed (List Step))) → readSteps maxSteps l ≡ o → withSteps p q zs v o ≡ some c → Placed bs c
-  placed-steps c v l none e f = absurd (Option·none-ne-some c f)
-  placed-steps c v l (some r) e f =
+  with-steps : (v : ℕ) (ss : List Step) → PlacedSteps bs (place (eqb q 0)) ss → Placed bs (record { p = p; q = q; potentials = zs; node = v; steps = ss })
+  with-steps v ss w =
+      record { some = h .some; few = h .few; fewSteps = w .few; inside = h .inside; potentials = h .potentials; steps = w .steps; full = w .full }
+
+  placed-steps : (c : Certificate) (v : ℕ) (o : Option (Parsed (List Step))) → readSteps maxSteps (drop (place (eqb q 0)) bs) ≡ o →
+      withSteps p q zs v o ≡ some c → Placed bs c
+  placed-steps c v none e f = absurd (Option·none-ne-some c f)
+  placed-steps c v (some r) e f =
       subst (Placed bs) (Option·some-injective _ _ (cond-some (isEnd (r .rest) && ltb 0 (length (r .value))) _ f .1))
-      (with-steps v (r .value) (steps-few maxSteps l r e) (steps-full maxSteps l r e))
+      (with-steps v (r .value) (steps-read bs (place (eqb q 0)) r e))
 
-  placed-rest : (c : Certificate) (rest : List ℕ) → withPotentials p q (some (record { value = zs; rest = rest })) ≡ some c → Placed bs c
-  placed-rest c rest f = by (eqb q 0) f
+  placed-rest : (c : Certificate) (rest : List ℕ) → rest ≡ drop (headSize + potentialSize * length zs) bs →
+      withPotentials p q (some (record { value = zs; rest = rest })) ≡ some c → Placed bs c
+  unfolding items
+  placed-rest c rest after f = by (eqb q 0) refl f
     where
       bare : Certificate
       bare = record { p = p; q = q; potentials = zs; node = 0; steps = [] }
 
       full : Option Certificate
-      full = withSteps p q zs (nodeIn rest 0) (readSteps maxSteps (drop cycleSize rest))
+      full = withSteps p q zs (cycleNodeIn rest 0) (readSteps maxSteps (drop cycleSize rest))
 
-      by : (b : Bool) → cond b (cond (isEnd rest) (some bare) none) (cond (has rest nodeCommand cycleSize) full none) ≡ some c → Placed bs c
-      by true k =
+      further : eqb q 0 ≡ false → drop (place (eqb q 0)) bs ≡ drop cycleSize rest
+      further e = ap (λ b. drop (place b) bs) e ∙ sym (ap (drop cycleSize) after ∙ drop-drop cycleSize (headSize + potentialSize * length zs) bs)
+
+      by : (b : Bool) → eqb q 0 ≡ b → cond b (cond (isEnd rest) (some bare) none) (cond (has rest nodeCommand cycleSize) full none) ≡ some c → Placed bs c
+      by true e k =
           subst (Placed bs) (Option·some-injective _ _ (cond-some (isEnd rest) (some bare) k .1))
-          (with-steps 0 [] (omega arith) (λ j h. absurd (not-suc-le-zero h)))
-      by false k = placed-steps c (nodeIn rest 0) (drop cycleSize rest) _ refl (cond-some (has rest nodeCommand cycleSize) full k .1)
+          (with-steps 0 [] (record { few = omega arith; steps = refl; full = λ j h. absurd (not-suc-le-zero h) }))
+      by false e k =
+          placed-steps c (cycleNodeIn rest 0) (readSteps maxSteps (drop cycleSize rest)) (ap (readSteps maxSteps) (further e))
+          (cond-some (has rest nodeCommand cycleSize) full k .1)
 
 pub placed : (bs : List ℕ) (c : Certificate) → readCertificate bs ≡ some c → Placed bs c
 unfolding readCertificate
 placed bs c e =
-    let n = countIn bs in
+    let n = potentialCountIn bs in
     let three = cond-some (has bs headCommand headSize && leb 1 n && leb n maxNodes) (withPotentials (pIn bs) (qIn bs) (readPotentials n (drop headSize bs))) e in
     let two = both (has bs headCommand headSize && leb 1 n) (leb n maxNodes) (three .0) in
     let one = both (has bs headCommand headSize) (leb 1 n) (two .0) in
     by (has-room bs 0 headCommand headSize (omega arith) (one .0)) (leb-true 1 n (one .1)) (leb-true n maxNodes (two .1)) (readPotentials n (drop headSize bs)) refl (three .1)
   where
-    by : 0 + headSize ≤ length bs → 1 ≤ countIn bs → countIn bs ≤ maxNodes → (o : Option (Parsed (List ℤ))) → readPotentials (countIn bs) (drop headSize bs) ≡ o →
+    by : 0 + headSize ≤ length bs → 1 ≤ potentialCountIn bs → potentialCountIn bs ≤ maxNodes → (o : Option (Parsed (List ℤ))) → readPotentials (potentialCountIn bs) (drop headSize bs) ≡ o →
         withPotentials (pIn bs) (qIn bs) o ≡ some c → Placed bs c
     by room low high none k f = absurd (Option·none-ne-some c f)
     by room low high (some r) k f =
-        let w = potentials-placed bs headSize (countIn bs) (omega arith) r k in
-        let size : length (r .value) ≡ countIn bs = ap length (w .1) ∙ items-length (potentialIn bs) headSize potentialSize (countIn bs) in
+        let w = potentials-placed bs headSize (potentialCountIn bs) (omega arith) r k in
+        let size : length (r .value) ≡ potentialCountIn bs = ap length (w .1) ∙ items-length (potentialIn bs) headSize potentialSize (potentialCountIn bs) in
         placed-rest bs (pIn bs) (qIn bs) (r .value)
         (record { some = omega arith; few = omega arith; inside = rw size (w .0); potentials = w .1 ∙ ap (potentialsIn bs) (sym size) })
-        c (r .rest) f
+        c (r .rest) (w .2 ∙ ap (λ (k : ℕ). drop (headSize + potentialSize * k) bs) (sym size)) f
 
 -- ---- in place
+
+-- the parts of a certificate that is read are those of it in place
+pub certificate-placed : (bs : List ℕ) (c : Certificate) → readCertificate bs ≡ some c → certificateOf bs (partsOf c) ≡ c
+certificate-placed bs c e =
+    let w = placed bs c e in
+    λ i. record { p = c .p; q = c .q; potentials = sym (w .potentials) i; node = c .node; steps = sym (w .steps) i }
+
+-- what was read, where the form is known
+pub read-as : (bs : List ℕ) {f g : Form} → f ≡ inPlace (readCertificate bs) → f ≡ g → readCertificate bs ≡ formOf bs g
+read-as bs {f} {g} e k = by (readCertificate bs) refl ∙ ap (formOf bs) (sym e ∙ k)
+  where
+    by : (o : Option Certificate) → readCertificate bs ≡ o → readCertificate bs ≡ formOf bs (inPlace (readCertificate bs))
+    by none r = r ∙ ap (λ o. formOf bs (inPlace o)) (sym r)
+    by (some c) r = r ∙ ap some (sym (certificate-placed bs c r)) ∙ ap (λ o. formOf bs (inPlace o)) (sym r)
 
 -- a potential stands within the bytes
 pub potential-inside : (bs : List ℕ) (i : ℕ) → HasPotential bs i → headSize + potentialSize * i + potentialSize ≤ length bs

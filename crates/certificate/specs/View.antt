@@ -2,23 +2,20 @@
 use mathlib.Core.Path.{_≡_}
 use Prim.Native.Nat.{ℕ, _+_, _*_, _≤_, _<_}
 use mathlib.Core.Bool.{cond}
-use mathlib.Core.List.{List, [], _∷_, _++_, map}
+use mathlib.Core.List.{List, [], map}
 use mathlib.Core.Option.{Option, none, some}
+use lib.Dec.{eqb}
 use lib.IntN.{ℤ}
 use lib.ListN.{length, getD, drop}
 use Rattle.model.specs.Limits.{maxTasks, maxSteps}
 use Rattle.model.specs.Lists.{upFrom}
-use Rattle.model.specs.Bytes.{number, bytes, signed, part}
-use Rattle.model.specs.Certificate.{Certificate, Step, Parsed, has, withSteps, readSteps, readCertificate}
+use Rattle.model.specs.Bytes.{number, signed, part}
+use Rattle.model.specs.Certificate.{Certificate, Step, Parsed, has, isEnd, withSteps, readSteps, readCertificate}
 use Rattle.certificate.specs.declared.Parts.{Parts}
 use Rattle.certificate.specs.declared.Form.{Form}
 use Rattle.certificate.specs.declared.Form.the-variants.{Fault, Read}
 use Rattle.certificate.specs.declared.Run.{Run}
 use Rattle.certificate.specs.declared.Run.the-variants as run
-use Rattle.certificate.specs.declared.Permille.{Permille}
-use Rattle.certificate.specs.declared.Permille.the-variants as permille
-
--- ---- the form
 
 -- the commands
 abbrev pub headCommand : ℕ
@@ -63,11 +60,11 @@ pIn bs = number (part bs 1 4)
 abbrev pub qIn : List ℕ → ℕ
 qIn bs = number (part bs 5 4)
 
-abbrev pub countIn : List ℕ → ℕ
-countIn bs = number (part bs 9 2)
+abbrev pub potentialCountIn : List ℕ → ℕ
+potentialCountIn bs = number (part bs 9 2)
 
-abbrev pub nodeIn : List ℕ → ℕ → ℕ
-nodeIn bs at = number (part bs (at + 1) 2)
+abbrev pub cycleNodeIn : List ℕ → ℕ → ℕ
+cycleNodeIn bs at = number (part bs (at + 1) 2)
 
 -- the potential, and the step, whose command is at a place
 abbrev pub potentialIn : List ℕ → ℕ → ℤ
@@ -94,6 +91,18 @@ abbrev pub formOf : List ℕ → Form → Option Certificate
 formOf bs Fault = none
 formOf bs (Read c) = some (certificateOf bs c)
 
+-- where a certificate's steps begin: after the potentials, and where there is a cycle after its head
+abbrev pub stepsPlace : Certificate → ℕ
+stepsPlace c = headSize + potentialSize * length (c .potentials) + cond (eqb (c .q) 0) 0 cycleSize
+
+-- its parts
+abbrev pub partsOf : Certificate → Parts
+partsOf c = record { p = c .p; q = c .q; count = length (c .potentials); node = c .node; from = stepsPlace c; steps = length (c .steps) }
+
+abbrev pub inPlace : Option Certificate → Form
+inPlace none = Fault
+inPlace (some c) = Read (partsOf c)
+
 -- the bytes are the certificate with these parts
 abbrev pub IsRead : List ℕ → Parts → Type 0
 IsRead bs c = readCertificate bs ≡ some (certificateOf bs c)
@@ -113,29 +122,17 @@ abbrev pub runOf : {A : Type 0} → List ℕ → (ℕ → A) → ℕ → ℕ →
 runOf bs item from size run.Fault = none
 runOf bs item from size (run.Items n cursor) = some (record { value = items item from size n; rest = drop (cursor .at) bs })
 
--- a run ends within the bytes
-abbrev pub Inside : List ℕ → Run → Type 0
-Inside bs run.Fault = Unit {0}
-Inside bs (run.Items n cursor) = cursor .at ≤ length bs
+-- a run ends after its items, within the bytes
+abbrev pub Inside : List ℕ → ℕ → ℕ → Run → Type 0
+Inside bs from size run.Fault = Unit {0}
+Inside bs from size (run.Items n cursor) = (cursor .at ≡ from + size * n) × (cursor .at ≤ length bs)
+
+-- the parts, where the end stands at a place and nothing after it
+abbrev pub endedAt : List ℕ → ℕ → Parts → Form
+endedAt bs at c = cond (isEnd (drop at bs)) (Read c) Fault
 
 -- the certificate whose cycle starts at a place, after n potentials
 abbrev pub cycleFrom : List ℕ → ℕ → ℕ → ℕ → ℕ → Option Certificate
 cycleFrom bs p q n at =
     let rest = drop at bs in
-    cond (has rest nodeCommand cycleSize) (withSteps p q (potentialsIn bs n) (nodeIn rest 0) (readSteps maxSteps (drop cycleSize rest))) none
-
--- the pieces that are written of the head, of the cycle's start and of the end
-abbrev pub headBytes : ℕ → ℕ → ℕ → List ℕ
-headBytes p q n = (headCommand ∷ bytes 4 p) ++ bytes 4 q ++ bytes 2 n
-
-abbrev pub nodeBytes : ℕ → List ℕ
-nodeBytes v = nodeCommand ∷ bytes 2 v
-
-abbrev pub endBytes : List ℕ
-endBytes = endCommand ∷ []
-
--- ---- the fraction
-
-abbrev pub permilleOf : Permille → Option ℕ
-permilleOf permille.None = none
-permilleOf (permille.Some n) = some n
+    cond (has rest nodeCommand cycleSize) (withSteps p q (potentialsIn bs n) (cycleNodeIn rest 0) (readSteps maxSteps (drop cycleSize rest))) none

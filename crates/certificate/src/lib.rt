@@ -1,17 +1,12 @@
-// Certificates: the form read in place and written, and the fraction.
+// Certificates: the form, read in place.
 ghost use mathlib.Core.Path.{_≡_};
-ghost use mathlib.Core.Bool.{true, cond};
-ghost use mathlib.Core.List.{_∷_};
-ghost use mathlib.Core.Option.{none, some};
+ghost use mathlib.Core.Option.{some};
 ghost use Prim.Native.Nat.{_+_, _*_, _^_, _≤_, _<_};
 ghost use lib.ListN.{length, drop};
-ghost use lib.Signed.{leZ};
 ghost use Rattle.model.specs.Limits.{maxSteps};
-ghost use Rattle.model.specs.Lists.{all};
-ghost use Rattle.model.specs.Bytes.{bytes, complement, overwrite};
 ghost use Rattle.model.specs.Check as check-model;
 ghost use Rattle.model.specs.Certificate as model;
-ghost use Rattle.certificate.specs.View.{potentialCommand, stepCommand, potentialWidth, cycleSize, headSize, potentialSize, stepSize, potentialIn, stepIn, certificateOf, formOf, runOf, Inside, IsRead, HasPotential, stepAt, cycleFrom, headBytes, nodeBytes, endBytes, permilleOf};
+ghost use Rattle.certificate.specs.View.{headSize, potentialSize, stepSize, potentialIn, stepIn, certificateOf, inPlace, runOf, Inside, IsRead, HasPotential, stepAt, endedAt, cycleFrom};
 
 // The bytes of the head, of a potential, of the cycle's start and of a step, each with its command.
 pub const HEAD_SIZE: usize = 11;
@@ -28,14 +23,6 @@ pub const MASKS_SIZE: usize = limits::MAX_TASKS;
 const MAX_NODES: usize = limits::MAX_NODES;
 
 const MAX_STEPS: usize = limits::MAX_STEPS;
-
-const MAX_POTENTIAL: i64 = limits::MAX_POTENTIAL;
-
-const MIN_POTENTIAL: i64 = -limits::MAX_POTENTIAL;
-
-const MAX_P: u32 = limits::MAX_P;
-
-const MAX_Q: u32 = limits::MAX_Q;
 
 // A certificate's numbers, and where its lists stand: `count` potentials after the head, and `steps`
 // steps from the place `from` on.
@@ -64,12 +51,6 @@ enum Run {
     Items(usize, Cursor),
 }
 
-// 1000 p / q rounded down, or none for 1/0.
-pub enum Permille {
-    None,
-    Some(u64),
-}
-
 // The cursor n bytes on.
 fn past(cursor: Cursor, n: usize) -> Cursor
     requires { ⌜ cursor .at + n < 2 ^ 64 ⌝ }
@@ -93,7 +74,7 @@ fn has(s: &[u8], cursor: Cursor, command: u8, n: usize) -> bool
 // The potentials from the cursor on, n of them.
 fn potentials(s: &[u8], from: Cursor, n: usize) -> Run
     requires { ⌜ from .at ≤ length (now s) ⌝ }
-    ensures { λ r. ⌜ Inside (now (s .entry)) r ⌝ }
+    ensures { λ r. ⌜ Inside (now (s .entry)) (from .at) potentialSize r ⌝ }
     ensures { λ r. ⌜ runOf (now (s .entry)) (potentialIn (now (s .entry))) (from .at) potentialSize r ≡ model.readPotentials n (drop (from .at) (now (s .entry))) ⌝ }
 {
     let mut i = 0;
@@ -111,7 +92,7 @@ fn potentials(s: &[u8], from: Cursor, n: usize) -> Run
 // The steps from the cursor on, at most so many as a cycle has.
 fn steps(s: &[u8], from: Cursor) -> Run
     requires { ⌜ from .at ≤ length (now s) ⌝ }
-    ensures { λ r. ⌜ Inside (now (s .entry)) r ⌝ }
+    ensures { λ r. ⌜ Inside (now (s .entry)) (from .at) stepSize r ⌝ }
     ensures { λ r. ⌜ runOf (now (s .entry)) (stepIn (now (s .entry))) (from .at) stepSize r ≡ model.readSteps maxSteps (drop (from .at) (now (s .entry))) ⌝ }
 {
     let mut i = 0;
@@ -132,7 +113,7 @@ fn steps(s: &[u8], from: Cursor) -> Run
 // The parts, if the end stands at the cursor and nothing after it.
 fn ended(s: &[u8], cursor: Cursor, parts: Parts) -> Form
     requires { ⌜ cursor .at ≤ length (now s) ⌝ }
-    ensures { λ r. ⌜ formOf (now (s .entry)) r ≡ cond (model.isEnd (drop (cursor .at) (now (s .entry)))) (some (certificateOf (now (s .entry)) parts)) none ⌝ }
+    ensures { λ r. ⌜ r ≡ endedAt (now (s .entry)) (cursor .at) parts ⌝ }
 {
     let at = cursor.at;
     if s.len() - at != 1 {
@@ -144,10 +125,10 @@ fn ended(s: &[u8], cursor: Cursor, parts: Parts) -> Form
     Form::Read(parts)
 }
 
-// A cycle from the cursor on, after so many potentials.
+// The certificate whose cycle starts at the cursor, after so many potentials.
 fn cycle(s: &[u8], p: u32, q: u32, count: usize, cursor: Cursor) -> Form
-    requires { ⌜ cursor .at ≤ length (now s) ⌝ }
-    ensures { λ r. ⌜ formOf (now (s .entry)) r ≡ cycleFrom (now (s .entry)) p q count (cursor .at) ⌝ }
+    requires { ⌜ (cursor .at ≡ headSize + potentialSize * count) × (cursor .at ≤ length (now s)) × (q ≡ 0 → ⊥) ⌝ }
+    ensures { λ r. ⌜ r ≡ inPlace (cycleFrom (now (s .entry)) p q count (cursor .at)) ⌝ }
 {
     if !has(s, cursor, 0x13, CYCLE_SIZE) {
         return Form::Fault;
@@ -176,7 +157,7 @@ fn cycle(s: &[u8], p: u32, q: u32, count: usize, cursor: Cursor) -> Form
 
 // The certificate that the bytes are.
 pub fn read(s: &[u8]) -> Form
-    ensures { λ r. ⌜ formOf (now (s .entry)) r ≡ model.readCertificate (now (s .entry)) ⌝ }
+    ensures { λ r. ⌜ r ≡ inPlace (model.readCertificate (now (s .entry))) ⌝ }
 {
     let start = Cursor { at: 0 };
     if !has(s, start, 0x11, HEAD_SIZE) {
@@ -219,55 +200,6 @@ pub fn potential(s: &[u8], i: usize) -> i64
     words::read_i64(s, HEAD_SIZE + POTENTIAL_SIZE * i + 1)
 }
 
-// Whether a potential lies within the limit.
-fn within_limit(z: i64) -> bool
-    ensures { λ b. ⌜ b ≡ check-model.withinLimit z ⌝ }
-{
-    if z < MIN_POTENTIAL {
-        return false;
-    }
-    z <= MAX_POTENTIAL
-}
-
-// Whether every potential lies within the limit.
-pub fn within_limits(s: &[u8], parts: Parts) -> bool
-    requires { ⌜ IsRead (now s) parts ⌝ }
-    ensures { λ b. ⌜ b ≡ all check-model.withinLimit (certificateOf (now (s .entry)) parts .potentials) ⌝ }
-{
-    let n = parts.count;
-    let mut i = 0;
-    while i < n {
-        if !within_limit(potential(s, i)) {
-            return false;
-        }
-        i += 1;
-    }
-    true
-}
-
-// The smaller of two numbers.
-fn smaller(z: i64, m: i64) -> i64
-    ensures { λ r. ⌜ r ≡ cond (leZ z m) z m ⌝ }
-{
-    if z <= m { z } else { m }
-}
-
-// The start node's potential less the smallest.
-pub fn allowance(s: &[u8], parts: Parts) -> u64
-    requires { ⌜ IsRead (now s) parts × (all check-model.withinLimit (certificateOf (now s) parts .potentials) ≡ true) ⌝ }
-    ensures { λ r. ⌜ r ≡ check-model.allowance (certificateOf (now (s .entry)) parts .potentials) ⌝ }
-{
-    let n = parts.count;
-    let first = potential(s, 0);
-    let mut least = first;
-    let mut i = 0;
-    while i < n {
-        least = smaller(potential(s, i), least);
-        i += 1;
-    }
-    (first - least) as u64
-}
-
 // The label of the step j.
 pub fn step_label(s: &[u8], parts: Parts, j: usize) -> u8
     requires { ⌜ IsRead (now s) parts × (j < parts .steps) ⌝ }
@@ -286,92 +218,4 @@ pub fn step_masks(s: &[u8], parts: Parts, j: usize) -> [u8; MASKS_SIZE]
     let mut masks = [0u8; MASKS_SIZE];
     words::copy(s, from + STEP_SIZE * j + 2, &mut masks, 0, MASKS_SIZE);
     masks
-}
-
-// The greatest common divisor.
-pub fn gcd(a: u32, b: u32) -> u32
-    ensures { λ r. ⌜ r ≡ check-model.gcd a b ⌝ }
-{
-    let mut x = a;
-    let mut y = b;
-    while y != 0 {
-        let r = x % y;
-        x = y;
-        y = r;
-    }
-    x
-}
-
-// Whether a fraction is 1/0 or in lowest terms within the limits.
-pub fn fraction_ok(p: u32, q: u32) -> bool
-    ensures { λ b. ⌜ b ≡ check-model.fractionOk p q ⌝ }
-{
-    if q == 0 {
-        return p == 1;
-    }
-    if MAX_P < p {
-        return false;
-    }
-    if MAX_Q < q {
-        return false;
-    }
-    gcd(p, q) == 1
-}
-
-// The fraction in thousandths, rounded down.
-pub fn thousandths(p: u32, q: u32) -> Permille
-    ensures { λ r. ⌜ permilleOf r ≡ check-model.thousandths p q ⌝ }
-{
-    if q == 0 {
-        return Permille::None;
-    }
-    Permille::Some(1000 * p as u64 / q as u64)
-}
-
-// Writes the head, for n potentials.
-pub fn write_head(out: &mut [u8], p: u32, q: u32, n: u16)
-    requires { ⌜ headSize ≤ length (now out) ⌝ }
-    ensures { λ _. ⌜ now (out .exit) ≡ overwrite (now (out .entry)) 0 (headBytes p q n) ⌝ }
-{
-    out[0] = 0x11;
-    words::write_u32(out, 1, p);
-    words::write_u32(out, 5, q);
-    words::write_u16(out, 9, n);
-}
-
-// Writes the potential i.
-pub fn write_potential(out: &mut [u8], i: usize, z: i64)
-    requires { ⌜ headSize + potentialSize * i + potentialSize ≤ length (now out) ⌝ }
-    ensures { λ _. ⌜ now (out .exit) ≡ overwrite (now (out .entry)) (headSize + potentialSize * i) (potentialCommand ∷ bytes potentialWidth (complement z)) ⌝ }
-{
-    let at = HEAD_SIZE + POTENTIAL_SIZE * i;
-    out[at] = 0x12;
-    words::write_i64(out, at + 1, z);
-}
-
-// Writes the node where the cycle starts.
-pub fn write_cycle_head(out: &mut [u8], at: usize, node: u16)
-    requires { ⌜ at + cycleSize ≤ length (now out) ⌝ }
-    ensures { λ _. ⌜ now (out .exit) ≡ overwrite (now (out .entry)) at (nodeBytes node) ⌝ }
-{
-    out[at] = 0x13;
-    words::write_u16(out, at + 1, node);
-}
-
-// Writes a step.
-pub fn write_step(out: &mut [u8], at: usize, label: u8, masks: [u8; MASKS_SIZE])
-    requires { ⌜ at + stepSize ≤ length (now out) ⌝ }
-    ensures { λ _. ⌜ now (out .exit) ≡ overwrite (now (out .entry)) at (stepCommand ∷ label ∷ masks) ⌝ }
-{
-    out[at] = 0x14;
-    out[at + 1] = label;
-    words::copy(&masks, 0, out, at + 2, MASKS_SIZE);
-}
-
-// Writes the end.
-pub fn write_end(out: &mut [u8], at: usize)
-    requires { ⌜ at < length (now out) ⌝ }
-    ensures { λ _. ⌜ now (out .exit) ≡ overwrite (now (out .entry)) at endBytes ⌝ }
-{
-    out[at] = 0x15;
 }

@@ -1,6 +1,6 @@
 // The check as text: the line of an accepted certificate, or of a refusal.
-use certificate::Permille;
 use checker::Answer;
+use fraction::Permille;
 ghost use mathlib.Core.Path.{_≡_};
 ghost use Prim.Native.Nat.{_+_, _≤_};
 ghost use lib.Dec.{leb};
@@ -26,7 +26,7 @@ fn put_thousandths(out: &mut [u8], at: usize, p: u32, q: u32) -> usize
     ensures { λ r. ⌜ Put (now (out .entry)) (now (out .exit)) at (thousandthsText (thousandths p q)) r ⌝ }
     ensures { λ r. ⌜ r ≤ at + numberRoom ⌝ }
 {
-    match certificate::thousandths(p, q) {
+    match fraction::thousandths(p, q) {
         Permille::None => text::put_bytes(out, at, b"none"),
         Permille::Some(m) => text::put_number(out, at, m),
     }

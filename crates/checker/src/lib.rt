@@ -47,13 +47,13 @@ fn verdict(
     ensures { λ r. ⌜ ((P : model.Plan) → Planned P rules (now (next .entry)) → Holds P (tasksIn rules) (now (m .entry)) n → answerOf r ≡ model-check.verdict P (certificateOf (now (s .entry)) parts)) ⌝ }
     ensures { λ _. ⌜ NotesFree (now (notes .entry)) (now (notes .exit)) ⌝ }
 {
-    if !certificate::fraction_ok(parts.p, parts.q) {
+    if !fraction::fraction_ok(parts.p, parts.q) {
         return Answer::Refused(Refusal::BadFraction);
     }
     if parts.count != n {
         return Answer::Refused(Refusal::BadCount);
     }
-    if !certificate::within_limits(s, parts) {
+    if !allowance::within_limits(s, parts) {
         return Answer::Refused(Refusal::BadPotential);
     }
     let claim = Claim {
@@ -67,7 +67,7 @@ fn verdict(
     if !cycle::holds(next, rules, s, parts, m, n) {
         return Answer::Refused(Refusal::BadCycle);
     }
-    let k = certificate::allowance(s, parts);
+    let k = allowance::allowance(s, parts);
     Answer::Share {
         p: parts.p,
         q: parts.q,

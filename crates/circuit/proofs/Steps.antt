@@ -26,7 +26,7 @@ use Rattle.theory.proofs.Form.{stepBytes, padded-length}
 use Rattle.theory.proofs.Gains.{walk-kept-le, walk-ideal-le}
 use Rattle.theory.proofs.Sound.{PlanSound}
 use Rattle.certificate.specs.View.{stepSize}
-use Rattle.certificate.proofs.Pieces.{step-length, flatMap-length, overwrite-piece}
+use Rattle.certificate_bytes.proofs.Pieces.{step-length, flatMap-length, overwrite-piece}
 use Rattle.policy.specs.declared.Rules.{Rules}
 use Rattle.links.specs.Links.{takenIn, takenOf, firstSteps}
 use Rattle.links.specs.declared.Taken as links

@@ -118,7 +118,7 @@ pub fn lowest(kept: u32, ideal: u32) -> Fraction
     requires { ⌜ 0 < ideal ⌝ }
     ensures { λ r. ⌜ (r .p ≡ kept / check-model.gcd kept ideal) × (r .q ≡ ideal / check-model.gcd kept ideal) ⌝ }
 {
-    let g = certificate::gcd(kept, ideal);
+    let g = fraction::gcd(kept, ideal);
     Fraction {
         p: kept / g,
         q: ideal / g,
@@ -135,7 +135,7 @@ pub fn write_steps(rules: Rules, k: usize, notes: &mut [u8], m: &[u8], out: &mut
     while i < k {
         let edge = step_edge(rules, k, i, notes, m);
         let masks = edge.masks;
-        certificate::write_step(out, at + certificate::STEP_SIZE * i, edge.label, masks);
+        certificate_bytes::write_step(out, at + certificate::STEP_SIZE * i, edge.label, masks);
         i += 1;
     }
 }

@@ -15,9 +15,10 @@ use Rattle.model.specs.Graph.{Edge}
 use Rattle.theory.specs.Lightest.{stepOf}
 use Rattle.theory.proofs.Form.{potentialBytes}
 use Rattle.theory.proofs.Settled.{length-distances}
-use Rattle.certificate.specs.View.{headSize, potentialSize, cycleSize, stepSize, headBytes, nodeBytes, endBytes}
-use Rattle.certificate.proofs.Pieces.{certificate-pieces, head-length, potential-length, node-length, flatMap-length}
-use Rattle.certificate.proofs.Pieces.{overwrite-then, overwrite-piece}
+use Rattle.certificate.specs.View.{headSize, potentialSize, cycleSize, stepSize}
+use Rattle.certificate_bytes.specs.Pieces.{headBytes, nodeBytes, endBytes}
+use Rattle.certificate_bytes.proofs.Pieces.{certificate-pieces, head-length, potential-length, node-length, flatMap-length}
+use Rattle.certificate_bytes.proofs.Pieces.{overwrite-then, overwrite-piece}
 use Rattle.graph.proofs.Tables.{table-more}
 use Rattle.links.specs.Links.{linkIn, stateIn}
 use Rattle.circuit.specs.Circuit.{stepsBytes}

@@ -18,7 +18,7 @@ use Rattle.theory.proofs.Circuits.{along-length, along-first, along-same}
 use Rattle.theory.proofs.Distances.{AllSmallest}
 use Rattle.theory.proofs.Settled.{length-distances, settled-smallest, solved-bare, solved-cycle}
 use Rattle.theory.proofs.Sound.{PlanSound, sound-plan}
-use Rattle.certificate.specs.View.{endBytes}
+use Rattle.certificate_bytes.specs.Pieces.{endBytes}
 use Rattle.policy.specs.View.{tasksIn}
 use Rattle.policy.specs.declared.Rules.{Rules}
 use Rattle.discovery.proofs.Held.{held-count}

@@ -11,7 +11,8 @@ use Rattle.model.specs.Lists.{flatMap, upFrom}
 use Rattle.model.specs.Plan.{Plan}
 use Rattle.model.specs.Solve.{Solved}
 use Rattle.theory.specs.Lightest.{Along, stepOf}
-use Rattle.certificate.specs.View.{potentialCommand, potentialWidth, nodeBytes}
+use Rattle.certificate.specs.View.{potentialCommand, potentialWidth}
+use Rattle.certificate_bytes.specs.Pieces.{nodeBytes}
 use Rattle.policy.specs.declared.Rules.{Rules}
 use Rattle.links.specs.Links.{stateIn, firstSteps}
 use Rattle.circuit.specs.Circuit.{stepsBytes}

@@ -25,7 +25,7 @@ fn write_potentials(n: usize, m: &[u8], out: &mut [u8])
     let mut i = 0;
     while i < n {
         let link = links::link_to(m, i);
-        certificate::write_potential(out, i, link.distance);
+        certificate_bytes::write_potential(out, i, link.distance);
         i += 1;
     }
 }
@@ -45,7 +45,7 @@ fn write_cycle(
     ensures { λ _. ⌜ NotesFree (now (notes .entry)) (now (notes .exit)) ⌝ }
 {
     let first = links::step_at(m, 0);
-    certificate::write_cycle_head(out, at, first.node as u16);
+    certificate_bytes::write_cycle_head(out, at, first.node as u16);
     let from = at + certificate::CYCLE_SIZE;
     circuit::write_steps(rules, k, notes, m, out, from);
     from + certificate::STEP_SIZE * k
@@ -66,14 +66,14 @@ pub fn write(
 {
     let p = solution.p;
     let q = solution.q;
-    certificate::write_head(out, p, q, n as u16);
+    certificate_bytes::write_head(out, p, q, n as u16);
     write_potentials(n, m, out);
     let at = certificate::HEAD_SIZE + certificate::POTENTIAL_SIZE * n;
     if q == 0 {
-        certificate::write_end(out, at);
+        certificate_bytes::write_end(out, at);
         return at + 1;
     }
     let end = write_cycle(rules, solution.steps, notes, m, out, at);
-    certificate::write_end(out, end);
+    certificate_bytes::write_end(out, end);
     end + 1
 }

@@ -1,6 +1,6 @@
 -- `certificate::cycle` meets its contract: the node, the steps and the end.
 -- Assumes nothing.
-use mathlib.Core.Path.{_≡_, sym, _∙_, subst}
+use mathlib.Core.Path.{_≡_, sym, ap, _∙_, subst}
 use mathlib.Core.Bool.{true}
 use denote.Ref.{now}
 use Prim.Native.Nat.{_+_, _≤_}
@@ -9,7 +9,7 @@ use borrow.Author.Needs.{needs}
 use borrow.Author.Tests.{not-true, not-false}
 use lib.ListN.{length, drop}
 use Rattle.model.specs.Certificate.{has}
-use Rattle.certificate.specs.View.{nodeCommand, cycleSize, Inside}
+use Rattle.certificate.specs.View.{nodeCommand, cycleSize, stepSize, inPlace, Inside}
 use Rattle.certificate.proofs.Runs.{has-room}
 use Rattle.certificate.proofs.Forms.{cycle-missing, cycle-fault, cycle-empty, cycle-read}
 use Rattle.certificate.proofs.cycle.Statement.{statement}
@@ -21,14 +21,14 @@ has-requires c κs = search needs
 returns : tie.Need-returns
 returns c =
     let a = c .before .before .before .args in
-    cycle-missing (now (a .s)) (a .p) (a .q) (a .count) (a .cursor .at) (sym (c .before .has .ensures) ∙ not-true _ (c .if1 .taken))
+    ap inPlace (cycle-missing (now (a .s)) (a .p) (a .q) (a .count) (a .cursor .at) (sym (c .before .has .ensures) ∙ not-true _ (c .if1 .taken)))
 
 -- the cycle's start stands here
 stands : (c : tie.Else1) → has (drop (c .before .before .before .args .cursor .at) (now (c .before .before .before .args .s))) nodeCommand cycleSize ≡ true
 stands c = sym (c .before .has .ensures) ∙ not-false _ (c .if1 .left)
 
 room : (c : tie.Else1) → c .before .before .before .args .cursor .at + cycleSize ≤ length (now (c .before .before .before .args .s))
-room c = let a = c .before .before .before in has-room (now (a .args .s)) (a .args .cursor .at) _ _ (a .pre) (stands c)
+room c = let a = c .before .before .before in has-room (now (a .args .s)) (a .args .cursor .at) _ _ (a .pre .1) (stands c)
 
 add-read-u16 : tie.Need-add-read-u16
 add-read-u16 c = omega (arith, room (c .before))
@@ -56,7 +56,7 @@ returns-2 c =
     let r = c .before .before in
     let e = r .before .before .before .before in
     let a = e .before .before .before .args in
-    cycle-fault (now (a .s)) (a .p) (a .q) (a .count) (a .cursor .at) (stands e) _ (r .before .past .ensures) _ (r .steps .ensures .1) (c .enum-told .given .1)
+    ap inPlace (cycle-fault (now (a .s)) (a .p) (a .q) (a .count) (a .cursor .at) (stands e) _ (r .before .past .ensures) _ (r .steps .ensures .1) (c .enum-told .given .1))
 
 returns-3 : tie.Need-returns-3
 returns-3 c =
@@ -64,24 +64,27 @@ returns-3 c =
     let r = n .before .before in
     let e = r .before .before .before .before in
     let a = e .before .before .before .args in
-    cycle-empty (now (a .s)) (a .p) (a .q) (a .count) (a .cursor .at) (stands e) _ (r .before .past .ensures) _ (r .steps .ensures .1) _ _ (n .n .given .1)
-    (c .if2 .taken)
+    ap inPlace
+    (cycle-empty (now (a .s)) (a .p) (a .q) (a .count) (a .cursor .at) (stands e) _ (r .before .past .ensures) _ (r .steps .ensures .1) _ _ (n .n .given .1)
+    (c .if2 .taken))
 
 ended-requires : tie.Need-ended-requires
 ended-requires c κs =
     let n = c .before .before in
     let r = n .before .before in
-    subst (Inside (now (r .before .before .before .before .before .before .before .args .s))) (n .n .given .1) (r .steps .ensures .0)
+    let a = r .before .before .before .before .before .before .before .args in
+    subst (Inside (now (a .s)) (r .before .past .result .at) stepSize) (n .n .given .1) (r .steps .ensures .0) .1
 
 returns-4 : tie.Need-returns-4
 returns-4 c =
     let n = c .before .before .before in
     let r = n .before .before in
     let e = r .before .before .before .before in
-    let a = e .before .before .before .args in
+    let start = e .before .before .before in
+    let a = start .args in
     c .ended .ensures
     ∙ cycle-read (now (a .s)) (a .p) (a .q) (a .count) (a .cursor .at) (stands e) _ (r .before .past .ensures) _ (r .steps .ensures .1) _ _ (n .n .given .1)
-    (c .before .if2 .left) _ (r .before .before .read-u16 .ensures)
+    (c .before .if2 .left) _ (r .before .before .read-u16 .ensures) (start .pre .0) (start .pre .2)
 
 pub cycle-spec : {M : Type 1} → statement M
 cycle-spec =

@@ -3,27 +3,27 @@
 use mathlib.Core.Path.{_≡_, refl, sym, ap, ap₂, _∙_}
 use mathlib.Core.Bool.{Bool, cond, _&&_}
 use mathlib.Core.List.{List}
-use mathlib.Core.Option.{Option, none}
 use denote.Ref.{now}
 use borrow.Author.Needs.{needs}
 use borrow.Author.Tests.{eq-eqb, ne-eqb}
 use Prim.Native.Nat.{ℕ, _-_}
 use native.Mathlib.Nat.{add-zero}
 use lib.Dec.{eqb}
-use lib.ListN.{length, getD, drop, length-drop}
+use lib.ListN.{length, getD, length-drop}
 use lib.Seq.{getD-drop}
-use Rattle.model.specs.Certificate.{Certificate, isEnd}
-use Rattle.certificate.specs.View.{endCommand}
+use Rattle.certificate.specs.declared.Parts.{Parts}
+use Rattle.certificate.specs.declared.Form.the-variants.{Fault, Read}
+use Rattle.certificate.specs.View.{endCommand, endedAt}
 use Rattle.certificate.proofs.ended.Statement.{statement}
 use Rattle.certificate.proofs.ended.Tie as tie
 
 -- the end's tests in place
-by-tests : (bs : List ℕ) (at : ℕ) (o : Option Certificate) {a b : Bool} → eqb (length bs - at) 1 ≡ a → eqb (getD bs at 0) endCommand ≡ b →
-    cond (a && b) o none ≡ cond (isEnd (drop at bs)) o none
-by-tests bs at o p q =
+by-tests : (bs : List ℕ) (at : ℕ) (parts : Parts) {a b : Bool} → eqb (length bs - at) 1 ≡ a → eqb (getD bs at 0) endCommand ≡ b →
+    cond (a && b) (Read parts) Fault ≡ endedAt bs at parts
+by-tests bs at parts p q =
     sym
-    (ap₂ (λ (m x : ℕ). cond (eqb m 1 && eqb x endCommand) o none) (length-drop at bs) (getD-drop at bs 0 0 ∙ ap (λ (k : ℕ). getD bs k 0) (add-zero at))
-    ∙ ap₂ (λ s t. cond (s && t) o none) p q)
+    (ap₂ (λ (m x : ℕ). cond (eqb m 1 && eqb x endCommand) (Read parts) Fault) (length-drop at bs) (getD-drop at bs 0 0 ∙ ap (λ (k : ℕ). getD bs k 0) (add-zero at))
+    ∙ ap₂ (λ s t. cond (s && t) (Read parts) Fault) p q)
 
 sub-if1 : tie.Need-sub-if1
 sub-if1 c = search needs

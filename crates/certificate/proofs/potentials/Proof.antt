@@ -69,7 +69,7 @@ loop-again c =
 
 returns-2 : tie.Need-returns-2 Inv-loop μ-loop
 unfolding readPotentials
-returns-2 c = let i = c .before .loop .inv in (i .inside, reached-all _ _ _ _ _ _ _ _ i (c .loop-test .left) refl)
+returns-2 c = let i = c .before .loop .inv in ((i .place, i .inside), reached-all _ _ _ _ _ _ _ _ i (c .loop-test .left) refl)
 
 pub potentials-spec : {M : Type 1} → statement M
 potentials-spec =

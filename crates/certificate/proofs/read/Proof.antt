@@ -1,16 +1,16 @@
 -- `certificate::read` meets its contract: the head, the potentials, and a cycle unless q is 0.
 -- Assumes nothing.
-use mathlib.Core.Path.{_≡_, sym, _∙_, subst}
+use mathlib.Core.Path.{_≡_, sym, ap, _∙_, subst}
 use mathlib.Core.Bool.{true}
 use mathlib.Core.List.{List}
 use denote.Ref.{now}
-use Prim.Native.Nat.{ℕ, _≤_}
+use Prim.Native.Nat.{ℕ, _+_, _*_, _≤_}
 use native.Mathlib.Omega.{arith}
 use borrow.Author.Needs.{needs}
 use borrow.Author.Tests.{not-true, not-false}
 use lib.ListN.{length, drop}
 use Rattle.model.specs.Certificate.{has, readPotentials}
-use Rattle.certificate.specs.View.{headCommand, headSize, potentialSize, potentialIn, runOf, Inside}
+use Rattle.certificate.specs.View.{headCommand, headSize, potentialSize, potentialIn, inPlace, runOf, Inside}
 use Rattle.certificate.proofs.Runs.{has-room}
 use Rattle.certificate.proofs.Forms.{head-missing, no-nodes, many-nodes, potentials-fault, with-cycle, without-cycle}
 use Rattle.certificate.proofs.read.Statement.{statement}
@@ -20,7 +20,7 @@ has-requires : tie.Need-has-requires
 has-requires c κs = search needs
 
 returns : tie.Need-returns
-returns c = head-missing (now (c .before .before .before .args .s)) (sym (c .before .has .ensures) ∙ not-true _ (c .if1 .taken))
+returns c = ap inPlace (head-missing (now (c .before .before .before .args .s)) (sym (c .before .has .ensures) ∙ not-true _ (c .if1 .taken)))
 
 -- the head stands here
 stands : (c : tie.Else1) → has (now (c .before .before .before .args .s)) headCommand headSize ≡ true
@@ -58,10 +58,10 @@ abbrev bytes : tie.After-read-u16 → List ℕ
 bytes n = now (head n .before .before .before .args .s)
 
 returns-2 : tie.Need-returns-2
-returns-2 c = let n = c .before in no-nodes (bytes n) (stands (head n)) _ (n .read-u16 .ensures) (c .if2 .taken)
+returns-2 c = let n = c .before in ap inPlace (no-nodes (bytes n) (stands (head n)) _ (n .read-u16 .ensures) (c .if2 .taken))
 
 returns-3 : tie.Need-returns-3
-returns-3 c = let n = c .before .before in many-nodes (bytes n) (stands (head n)) _ (n .read-u16 .ensures) (c .before .if2 .left) (c .if3 .taken)
+returns-3 c = let n = c .before .before in ap inPlace (many-nodes (bytes n) (stands (head n)) _ (n .read-u16 .ensures) (c .before .if2 .left) (c .if3 .taken))
 
 past-requires : tie.Need-past-requires
 past-requires c = search needs
@@ -88,17 +88,21 @@ returns-4 : tie.Need-returns-4
 returns-4 c =
     let r = c .before .before in
     let n = r .before .before .before .before in
-    potentials-fault (bytes n) (stands (head n)) _ (n .read-u16 .ensures) (r .before .before .before .if2 .left) (r .before .before .if3 .left) _ _
-    (n .before .before .before .before .read-u32 .ensures) (n .before .before .read-u322 .ensures) _ (after-head r) (c .enum-told .given .1)
+    ap inPlace
+    (potentials-fault (bytes n) (stands (head n)) _ (n .read-u16 .ensures) (r .before .before .before .if2 .left) (r .before .before .if3 .left) _ _
+    (n .before .before .before .before .read-u32 .ensures) (n .before .before .read-u322 .ensures) _ (after-head r) (c .enum-told .given .1))
 
--- the potentials end within the bytes
-inside : (k : tie.After-count) → k .count .given .0 .1 .0 .at ≤ length (bytes (k .before .before .before .before .before .before))
-inside k =
+-- the potentials end where they have all been read, within the bytes
+after : (k : tie.After-count) →
+    let end = k .count .given .0 .1 .0 in
+    (end .at ≡ headSize + potentialSize * k .count .given .0 .0) × (end .at ≤ length (bytes (k .before .before .before .before .before .before)))
+after k =
     let r = k .before .before in
-    subst (Inside (bytes (r .before .before .before .before))) (k .count .given .1) (r .potentials .ensures .0)
+    let inside = subst (Inside (bytes (r .before .before .before .before)) (r .before .past .result .at) potentialSize) (k .count .given .1) (r .potentials .ensures .0) in
+    (omega (arith, inside .0, r .before .past .ensures), inside .1)
 
 cycle-requires : tie.Need-cycle-requires
-cycle-requires c κs = inside (c .before .before)
+cycle-requires c κs = let e = after (c .before .before) in (e .0, e .1, c .if4 .taken)
 
 returns-5 : tie.Need-returns-5
 returns-5 c =
@@ -106,11 +110,12 @@ returns-5 c =
     let r = k .before .before in
     let n = r .before .before .before .before in
     c .cycle .ensures
-    ∙ with-cycle (bytes n) (stands (head n)) _ (n .read-u16 .ensures) (r .before .before .before .if2 .left) (r .before .before .if3 .left) _ _
-    (n .before .before .before .before .read-u32 .ensures) (n .before .before .read-u322 .ensures) _ (after-head r) _ _ (k .count .given .1) (c .before .if4 .taken)
+    ∙ ap inPlace
+    (with-cycle (bytes n) (stands (head n)) _ (n .read-u16 .ensures) (r .before .before .before .if2 .left) (r .before .before .if3 .left) _ _
+    (n .before .before .before .before .read-u32 .ensures) (n .before .before .read-u322 .ensures) _ (after-head r) _ _ (k .count .given .1) (c .before .if4 .taken))
 
 ended-requires : tie.Need-ended-requires
-ended-requires c κs = inside (c .before .before)
+ended-requires c κs = after (c .before .before) .1
 
 returns-6 : tie.Need-returns-6
 returns-6 c =
@@ -119,7 +124,7 @@ returns-6 c =
     let n = r .before .before .before .before in
     c .ended .ensures
     ∙ without-cycle (bytes n) (stands (head n)) _ (n .read-u16 .ensures) (r .before .before .before .if2 .left) (r .before .before .if3 .left) _ _
-    (n .before .before .before .before .read-u32 .ensures) (n .before .before .read-u322 .ensures) _ (after-head r) _ _ (k .count .given .1) (c .before .if4 .left)
+    (n .before .before .before .before .read-u32 .ensures) (n .before .before .read-u322 .ensures) _ (after-head r) _ _ (k .count .given .1) (c .before .if4 .left) (after k .0)
 
 pub read-spec : {M : Type 1} → statement M
 read-spec =

@@ -38,7 +38,7 @@ has-requires c κs = (c .before .loop .inv .inside, omega arith)
 returns : tie.Need-returns Inv-loop μ-loop
 returns c =
     let l = c .before .before .before in
-    (l .loop .inv .inside, reached-end _ _ _ _ _ _ _ _ (l .loop .inv) (step-none (bytes l) (place l) (sym (c .before .has .ensures) ∙ not-true _ (c .if1 .taken)) _))
+    ((l .loop .inv .place, l .loop .inv .inside), reached-end _ _ _ _ _ _ _ _ (l .loop .inv) (step-none (bytes l) (place l) (sym (c .before .has .ensures) ∙ not-true _ (c .if1 .taken)) _))
 
 sub-if2 : tie.Need-sub-if2 Inv-loop μ-loop
 sub-if2 c = c .before .before .before .before .loop .inv .inside
@@ -75,7 +75,7 @@ loop-again c =
 
 returns-3 : tie.Need-returns-3 Inv-loop μ-loop
 unfolding readSteps
-returns-3 c = let i = c .before .loop .inv in (i .inside, reached-all _ _ _ _ _ _ _ _ i (c .loop-test .left) refl)
+returns-3 c = let i = c .before .loop .inv in ((i .place, i .inside), reached-all _ _ _ _ _ _ _ _ i (c .loop-test .left) refl)
 
 pub steps-spec : {M : Type 1} → statement M
 steps-spec =

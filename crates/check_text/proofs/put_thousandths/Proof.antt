@@ -2,7 +2,7 @@
 use mathlib.Core.Path.{sym, ap, _∙_}
 use native.Mathlib.Omega.{arith}
 use Rattle.model.specs.Text.{thousandthsText}
-use Rattle.certificate.specs.View.{permilleOf}
+use Rattle.fraction.specs.View.{permilleOf}
 use Rattle.text.proofs.Decimal.{decimal-length}
 use Rattle.text.proofs.Put.{put-as}
 use borrow.Author.Needs.{needs}

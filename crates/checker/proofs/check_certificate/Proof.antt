@@ -1,20 +1,11 @@
 -- `checker::check_certificate` meets its contract: a fault of form, or the verdict. Assumes nothing.
-use mathlib.Core.Path.{_≡_, refl, sym, ap, _∙_}
-use mathlib.Core.List.{List}
-use mathlib.Core.Option.{Option}
-use Prim.Native.Nat.{ℕ}
+use mathlib.Core.Path.{refl, sym, ap, _∙_}
 use borrow.Author.Needs.{needs}
 use Rattle.words.proofs.Free.{only-refl}
-use Rattle.model.specs.Certificate.{Certificate}
 use Rattle.model.specs.Check.{checkRead}
-use Rattle.certificate.specs.View.{formOf}
-use Rattle.certificate.specs.declared.Form.{Form}
+use Rattle.certificate.proofs.Placed.{read-as}
 use Rattle.checker.proofs.check_certificate.Statement.{statement}
 use Rattle.checker.proofs.check_certificate.Tie as tie
-
--- what was read, where the form is known
-read-as : (bs : List ℕ) {f g : Form} {o : Option Certificate} → formOf bs f ≡ o → f ≡ g → o ≡ formOf bs g
-read-as bs e k = sym e ∙ ap (formOf bs) k
 
 read-requires : tie.Need-read-requires
 read-requires c κs = search needs

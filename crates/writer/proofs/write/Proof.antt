@@ -6,7 +6,8 @@ use lib.ListN.{length}
 use Rattle.words.proofs.Free.{only-refl}
 use Rattle.model.specs.Bytes.{overwrite}
 use Rattle.model.specs.Limits.{maxNodes, certificateRoom}
-use Rattle.certificate.specs.View.{headSize, endBytes}
+use Rattle.certificate.specs.View.{headSize}
+use Rattle.certificate_bytes.specs.Pieces.{endBytes}
 use Rattle.writer.specs.Writer.{distancesIn, potentialsBytes, WritesCycle, Written}
 use Rattle.writer.proofs.Bytes.{potentialsEnd, cycleEnd, fronted}
 use Rattle.writer.proofs.Certificates.{count-few, written-bare, steps-few, steps-some, turns, turning, written-full}

@@ -6,7 +6,8 @@ use native.Mathlib.Omega.{arith}
 use mathlib.Core.List.{map}
 use Rattle.model.specs.Bytes.{overwrite}
 use Rattle.theory.specs.Lightest.{stepOf}
-use Rattle.certificate.specs.View.{cycleSize, stepSize, nodeBytes}
+use Rattle.certificate.specs.View.{cycleSize, stepSize}
+use Rattle.certificate_bytes.specs.Pieces.{nodeBytes}
 use Rattle.links.specs.declared.Taken.{Taken}
 use Rattle.circuit.specs.Circuit.{stepsBytes}
 use Rattle.writer.proofs.Bytes.{cycle-written}

@@ -1,0 +1,79 @@
+-- A certificate's bytes, piece by piece.
+-- Assumes nothing.
+use mathlib.Core.Path.{_≡_, refl, sym, ap, ap₂, _∙_}
+use mathlib.Core.Bool.{cond}
+use mathlib.Core.List.{List, [], _∷_, _++_, append-assoc, append-nil}
+use Prim.Native.Nat.{ℕ, _+_, _*_, _≤_}
+use native.Mathlib.Nat.{mul-zero, mul-suc}
+use native.Mathlib.Omega.{arith}
+use lib.Dec.{eqb}
+use lib.IntN.{ℤ}
+use lib.ListN.{length, set, length-set, length-append}
+use lib.Seq.{take-all}
+use Rattle.model.specs.Lists.{flatMap}
+use Rattle.model.specs.Bytes.{bytes, part, overwrite}
+use Rattle.model.specs.Certificate.{Certificate, Step, certificateBytes}
+use Rattle.model.proofs.Lists.{flatMap-append}
+use Rattle.words.proofs.Numbers.{bytes-length}
+use Rattle.words.proofs.Memory.{overwrite-cons, overwrite-join}
+use Rattle.theory.proofs.Form.{potentialBytes, stepBytes}
+use Rattle.certificate.specs.View.{headCommand, stepCommand, masksWidth, headSize, potentialSize, cycleSize, stepSize}
+use Rattle.certificate_bytes.specs.Pieces.{headBytes, nodeBytes, endBytes}
+
+-- one after another they are the certificate's bytes
+pub certificate-pieces : (c : Certificate) →
+    certificateBytes c ≡ headBytes (c .p) (c .q) (length (c .potentials)) ++ flatMap potentialBytes (c .potentials)
+    ++ cond (eqb (c .q) 0) [] (nodeBytes (c .node) ++ flatMap stepBytes (c .steps)) ++ endBytes
+unfolding certificateBytes
+certificate-pieces c = refl
+
+-- ---- their lengths
+
+pub head-length : (p q n : ℕ) → length (headBytes p q n) ≡ headSize
+head-length p q n = simp (length-append, bytes-length)
+
+pub potential-length : (z : ℤ) → length (potentialBytes z) ≡ potentialSize
+potential-length z = simp bytes-length
+
+pub node-length : (v : ℕ) → length (nodeBytes v) ≡ cycleSize
+node-length v = simp bytes-length
+
+pub step-length : (s : Step) → length (s .masks) ≡ masksWidth → length (stepBytes s) ≡ stepSize
+step-length s e = simp e
+
+-- pieces of one size
+pub flatMap-length : {A : Type 0} (f : A → List ℕ) (size : ℕ) (l : List A) → ((a : A) → length (f a) ≡ size) → length (flatMap f l) ≡ size * length l
+flatMap-length f size [] h = sym (mul-zero size)
+flatMap-length f size (a ∷ l) h = rw (length-append, mul-suc) (omega (arith, h a, flatMap-length f size l h))
+
+-- ---- written one after another
+
+-- at the place after what was written
+pub overwrite-then : (m : List ℕ) (at : ℕ) (xs ys : List ℕ) (next : ℕ) → next ≡ at + length xs → next + length ys ≤ length m →
+    overwrite (overwrite m at xs) next ys ≡ overwrite m at (xs ++ ys)
+overwrite-then m at xs ys next e fits = rw e (overwrite-join m at xs ys (omega arith))
+
+-- one piece more of a list's
+pub overwrite-piece : {A : Type 0} (f : A → List ℕ) (m : List ℕ) (at : ℕ) (xs : List ℕ) (l : List A) (a : A) (next : ℕ) →
+    next ≡ at + length (xs ++ flatMap f l) → next + length (f a) ≤ length m →
+    overwrite (overwrite m at (xs ++ flatMap f l)) next (f a) ≡ overwrite m at (xs ++ flatMap f (l ++ (a ∷ [])))
+overwrite-piece f m at xs l a next e fits =
+    overwrite-then m at (xs ++ flatMap f l) (f a) next e fits
+    ∙ ap (overwrite m at)
+    (append-assoc xs (flatMap f l) (f a) ∙ ap (λ k. xs ++ k) (sym (flatMap-append f l (a ∷ []) ∙ ap (λ k. flatMap f l ++ k) (append-nil (f a)))))
+
+-- the head, field by field
+pub head-written : (m : List ℕ) (p q n : ℕ) → headSize ≤ length m →
+    overwrite (overwrite (overwrite (set m 0 headCommand) 1 (bytes 4 p)) 5 (bytes 4 q)) 9 (bytes 2 n) ≡ overwrite m 0 (headBytes p q n)
+head-written m p q n fits =
+    ap (λ k. overwrite (overwrite k 5 (bytes 4 q)) 9 (bytes 2 n)) (overwrite-cons m 0 headCommand (bytes 4 p) (simp bytes-length (omega arith)))
+    ∙ ap (λ k. overwrite k 9 (bytes 2 n)) (overwrite-then m 0 (headCommand ∷ bytes 4 p) (bytes 4 q) 5 (simp bytes-length) (simp bytes-length (omega arith)))
+    ∙ overwrite-then m 0 ((headCommand ∷ bytes 4 p) ++ bytes 4 q) (bytes 2 n) 9 (simp (length-append, bytes-length)) (simp bytes-length (omega arith))
+
+-- a step, by two stores and its masks
+pub step-written : (m : List ℕ) (at label : ℕ) (masks : List ℕ) → length masks ≡ masksWidth → at + stepSize ≤ length m →
+    overwrite (set (set m at stepCommand) (at + 1) label) (at + 2) (part masks 0 masksWidth) ≡ overwrite m at (stepCommand ∷ label ∷ masks)
+step-written m at label masks e fits =
+    ap₂ (λ (k : ℕ) bs. overwrite (set (set m at stepCommand) (at + 1) label) k bs) (omega arith) (take-all masksWidth masks (omega arith))
+    ∙ overwrite-cons (set m at stepCommand) (at + 1) label masks (simp length-set (omega arith))
+    ∙ overwrite-cons m at stepCommand (label ∷ masks) (omega arith)
