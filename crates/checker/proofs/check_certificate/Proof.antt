@@ -1,5 +1,5 @@
 -- `checker::check_certificate` meets its contract: a fault of form, or the verdict. Assumes nothing.
-use mathlib.Core.Path.{refl, sym, ap, _∙_}
+use mathlib.Core.Path.{sym, ap, _∙_}
 use borrow.Author.Needs.{needs}
 use Rattle.words.proofs.Free.{only-refl}
 use Rattle.model.specs.Check.{checkRead}
