@@ -1,4 +1,5 @@
 // A certificate's potentials: their limit, and the allowance.
+use node::Node;
 use certificate::Parts;
 ghost use mathlib.Core.Path.{_≡_};
 ghost use mathlib.Core.Bool.{true, cond};
@@ -7,9 +8,9 @@ ghost use Rattle.model.specs.Lists.{all};
 ghost use Rattle.model.specs.Check as check-model;
 ghost use Rattle.certificate.specs.View.{certificateOf, IsRead};
 
-const MAX_POTENTIAL: i64 = limits::MAX_POTENTIAL;
+const MAX_POTENTIAL: i64 = Node::MAX_POTENTIAL;
 
-const MIN_POTENTIAL: i64 = -limits::MAX_POTENTIAL;
+const MIN_POTENTIAL: i64 = -Node::MAX_POTENTIAL;
 
 // Whether a potential lies within the limit.
 fn within_limit(z: i64) -> bool

@@ -1,4 +1,5 @@
 // Certificates: the form, read in place.
+use node::Node;
 ghost use mathlib.Core.Path.{_≡_};
 ghost use mathlib.Core.Option.{some};
 ghost use Prim.Native.Nat.{_+_, _*_, _^_, _≤_, _<_};
@@ -18,11 +19,11 @@ pub const CYCLE_SIZE: usize = 3;
 pub const STEP_SIZE: usize = 2 + MASKS_SIZE;
 
 // The bytes of a step's masks.
-pub const MASKS_SIZE: usize = limits::MAX_TASKS;
+pub const MASKS_SIZE: usize = Node::MAX_TASKS;
 
-const MAX_NODES: usize = limits::MAX_NODES;
+const MAX_NODES: usize = Node::MAX_NODES;
 
-const MAX_STEPS: usize = limits::MAX_STEPS;
+const MAX_STEPS: usize = Node::MAX_STEPS;
 
 // A certificate's numbers, and where its lists stand: `count` potentials after the head, and `steps`
 // steps from the place `from` on.

@@ -1,4 +1,5 @@
 // The check of a certificate against a plan: the fraction and what it allows, or the refusal of the first fault.
+use node::Node;
 use certificate::Form;
 use certificate::Parts;
 use discovery::Discovered;
@@ -31,7 +32,7 @@ pub enum Answer {
 }
 
 // The least work memory.
-pub const WORK_ROOM: usize = limits::WORK_ROOM;
+pub const WORK_ROOM: usize = Node::WORK_ROOM;
 
 // The fraction, the count, the potentials and the cycle, each tried over the whole certificate before the next.
 fn verdict(

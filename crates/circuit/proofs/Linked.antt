@@ -12,7 +12,7 @@ use Rattle.plan.specs.View.{arcsIn}
 use Rattle.policy.specs.View.{cellCount, Cells, tasksIn, Ruled}
 use Rattle.policy.specs.declared.Rules.{Rules}
 use Rattle.graph.specs.Label.{Reaches}
-use Rattle.graph.specs.declared.Node.{Node}
+use Rattle.node.specs.declared.Node.{Node}
 use Rattle.graph.specs.declared.Noted.{Noted}
 use Rattle.store.specs.Store.{rowAt}
 use Rattle.discovery.specs.Discovery.{nodeIn}

@@ -1,5 +1,5 @@
 // A cycle of steps in lent memory: the gains of its best edges, the fraction in lowest terms, and its steps in a certificate.
-use graph::Node;
+use node::Node;
 use policy::Rules;
 ghost use mathlib.Core.Path.{_≡_};
 ghost use mathlib.Core.List.{List};

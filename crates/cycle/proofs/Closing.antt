@@ -14,7 +14,7 @@ use Rattle.model.specs.Lists.{sameNumbers}
 use Rattle.model.specs.Plan.{Plan}
 use Rattle.policy.specs.View.{Tasks, cellCount, Cells}
 use Rattle.graph.specs.View.{nodeOf}
-use Rattle.graph.specs.declared.Node as graph
+use Rattle.node.specs.declared.Node as graph
 use Rattle.store.specs.Store.{rowAt}
 use Rattle.discovery.specs.Discovery.{rowOf, nodeIn, Holding}
 use Rattle.discovery.proofs.Nodes.{row-view, held-row-at}

@@ -11,12 +11,15 @@ use Rattle.model.specs.Certificate.{Step}
 use Rattle.model.specs.Check.{findStep, Reached, follow}
 use Rattle.model.specs.Graph as model
 use Rattle.model.specs.Graph.{edges}
+use Rattle.model.specs.Limits.{maxStates}
 use Rattle.model.specs.Plan.{Plan}
 use Rattle.certificate.specs.View.{stepAt}
 use Rattle.policy.specs.View.{Tasks}
-use Rattle.graph.specs.View.{nodeOf}
+use Rattle.policy.specs.declared.Rules.{Rules}
+use Rattle.graph.specs.View.{nodeOf, Planned, planBy}
+use Rattle.graph.proofs.Edges.{planned-edges}
 use Rattle.graph.specs.Edge.{End, endIn, edgeEnd}
-use Rattle.graph.specs.declared.Node.{Node}
+use Rattle.node.specs.declared.Node.{Node}
 use Rattle.graph.specs.declared.Edge.{Edge}
 
 -- at a node, with these sums
@@ -65,3 +68,19 @@ module _ (P : Plan) (ts : Tasks) (ss : List Step) (j : ℕ) (below : j < length 
   step-taken is-found =
       by-end
       ∙ ap (λ (b : Bool). after P (drop (j + 1) ss) (here ts u kept ideal) (cond b (some (record { to = nodeOf ts (e .to); kept = e .kept; ideal = e .ideal })) none)) is-found
+
+-- the plans of a table lead where the table does
+pub planned-follow : {P : Plan} {r : Rules} {next : List ℕ} → Planned P r next → (ss : List Step) (x : Reached) →
+    follow P ss x ≡ follow (planBy r next maxStates) ss x
+unfolding follow
+planned-follow planned [] x = refl
+planned-follow {P} {r} {next} planned (s ∷ ss) x =
+    follow-first P s ss x ∙ ap (λ es. after P ss x (endIn (findStep s es))) (planned-edges planned (x .at))
+    ∙ by (endIn (findStep s (edges Q (x .at)))) (planned-follow planned ss) ∙ sym (follow-first Q s ss x)
+  where
+    Q : Plan
+    Q = planBy r next maxStates
+
+    by : (o : Option End) → ((y : Reached) → follow P ss y ≡ follow Q ss y) → after P ss x o ≡ after Q ss x o
+    by none later = refl
+    by (some e) later = later (record { at = e .to; kept = x .kept + e .kept; ideal = x .ideal + e .ideal })

@@ -1,6 +1,6 @@
 // The cycle of a certificate: its steps followed as edges of the graph.
 use certificate::Parts;
-use graph::Node;
+use node::Node;
 use policy::Rules;
 ghost use mathlib.Core.Path.{_≡_};
 ghost use mathlib.Core.Bool.{_&&_};
@@ -10,12 +10,11 @@ ghost use Rattle.model.specs.Check.{cycleOk};
 ghost use Rattle.model.specs.Graph.{nodes};
 ghost use Rattle.model.specs.Limits.{maxStates};
 ghost use Rattle.model.specs.Plan.{Plan};
-ghost use Rattle.plan.specs.View.{StatesFit};
 ghost use Rattle.certificate.specs.View.{certificateOf, IsRead};
 ghost use Rattle.policy.specs.View.{cellCount, Cells, tasksIn, Ruled};
-ghost use Rattle.graph.specs.View.{Planned};
+ghost use Rattle.graph.specs.View.{Planned, TableFits};
 ghost use Rattle.discovery.specs.Discovery.{Holds, Held};
-ghost use Rattle.cycle.specs.Cycle.{Followed};
+ghost use Rattle.cycle.specs.Cycle.{lostFrom, Followed};
 
 // Where steps lead and the sums of both gains, if they are edges.
 struct Walked {
@@ -25,9 +24,21 @@ struct Walked {
     ideal: u32,
 }
 
+// The steps are not all edges.
+fn lost(from: Node) -> Walked
+    ensures { λ r. ⌜ r ≡ lostFrom from ⌝ }
+{
+    Walked {
+        found: false,
+        at: from,
+        kept: 0,
+        ideal: 0,
+    }
+}
+
 // Where the steps of a certificate lead from a node.
 fn follow(next: &[u8; plan::PAIRS], rules: Rules, s: &[u8], parts: Parts, from: Node) -> Walked
-    requires { ⌜ Ruled rules × StatesFit (now next) × IsRead (now s) parts ⌝ }
+    requires { ⌜ Ruled rules × TableFits (now next) (rules .count) × IsRead (now s) parts ⌝ }
     requires { ⌜ Cells (tasksIn rules) cellCount (from .cells) × (from .state < maxStates) ⌝ }
     ensures { λ r. ⌜ Followed (now (next .entry)) rules (certificateOf (now (s .entry)) parts .steps) from r ⌝ }
 {
@@ -40,12 +51,7 @@ fn follow(next: &[u8; plan::PAIRS], rules: Rules, s: &[u8], parts: Parts, from: 
         let masks = certificate::step_masks(s, parts, j);
         let edge = graph::edge_by(next, rules, at, label, masks);
         if !edge.found {
-            return Walked {
-                found: false,
-                at,
-                kept,
-                ideal,
-            };
+            return lost(from);
         }
         at = edge.to;
         kept += edge.kept as u32;

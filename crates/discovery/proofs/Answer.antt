@@ -14,10 +14,12 @@ use Rattle.model.specs.Graph as model
 use Rattle.model.specs.Graph.{nodes, tooLarge}
 use Rattle.model.specs.Limits.{maxNodes, maxStates}
 use Rattle.model.specs.Plan.{Plan, IsSound}
-use Rattle.policy.specs.View.{Tasks, tasksIn}
+use Rattle.policy.specs.View.{Tasks, cellCount, Cells, tasksIn}
 use Rattle.policy.specs.declared.Rules.{Rules}
-use Rattle.graph.specs.View.{nodeOf, Starts, Planned, Planning}
-use Rattle.graph.specs.declared.Node.{Node}
+use Rattle.graph.specs.View.{nodeOf, Planned, Planning}
+use Rattle.graph.proofs.View.{start-view, start-cells}
+use Rattle.node.specs.Start.{startNode}
+use Rattle.node.specs.declared.Node.{Node}
 use Rattle.store.specs.Store.{storeBytes, rowAt, rowsIn, Indexed}
 use Rattle.store.proofs.Rows.{distinct-none}
 use Rattle.discovery.specs.declared.Discovered.{Discovered}
@@ -30,14 +32,14 @@ pub none-stored : (m : List ℕ) → Indexed m 0 → Stored m 0
 none-stored m index = record { index = index; distinct = distinct-none m }
 
 -- the start node joins them
-pub begun : (r : Rules) (u : Node) → Starts u → (m m′ : List ℕ) (q : ℕ) → Indexed m 0 →
+pub begun : (r : Rules) (u : Node) → u ≡ startNode → (m m′ : List ℕ) (q : ℕ) → Indexed m 0 →
     Adds (u .cells) (λ ts. nodeOf ts u ∷ []) m 0 m′ q → Begun r m′ q × Only 0 storeBytes m m′
 unfolding nodesIn rowsIn
-begun r u starts m m′ q index adds =
+begun r u e m m′ q index adds =
     let none-held : Holding (tasksIn r) m 0 = record { index = index; distinct = distinct-none m; cells = λ j h. absurd (omega arith) } in
-    let known = adds .known (tasksIn r) none-held (starts .cells (tasksIn r)) in
+    let known = adds .known (tasksIn r) none-held (subst (λ (v : Node). Cells (tasksIn r) cellCount (v .cells)) (sym e) (start-cells (tasksIn r))) in
     let one : q ≤ maxNodes = by (ltb maxNodes q) refl (known .many) in
-    (record { held = known .held one .0; nodes = known .held one .1 ∙ ap (λ (v : model.Node). v ∷ []) (starts .view (tasksIn r)) }, known .only)
+    (record { held = known .held one .0; nodes = known .held one .1 ∙ ap (λ (v : model.Node). v ∷ []) (ap (nodeOf (tasksIn r)) e ∙ start-view (tasksIn r)) }, known .only)
   where
     by : (b : Bool) → ltb maxNodes q ≡ b → (maxNodes < q → maxNodes < 1) → q ≤ maxNodes
     by true e many = absurd (omega (arith, many (ltb-true maxNodes q e)))

@@ -11,7 +11,7 @@ use Rattle.policy.specs.View.{Tasks, jobsOf, tasksIn, PlanFor, Slotted}
 use Rattle.policy.specs.declared.Rules.{Rules}
 use Rattle.policy.specs.declared.Done.{Done}
 use Rattle.graph.specs.View.{nodeOf, addNode}
-use Rattle.graph.specs.declared.Node.{Node}
+use Rattle.node.specs.declared.Node.{Node}
 use Rattle.graph.proofs.Outcomes.{firsts}
 use Rattle.graph.proofs.Adding.{add-patterns}
 use Rattle.discovery.specs.Discovery.{nodesIn, Holding, Known, Adds, nodesWith, Explored}

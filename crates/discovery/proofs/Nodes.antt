@@ -15,7 +15,7 @@ use Rattle.model.specs.Lists.{sameNumbers}
 use Rattle.theory.proofs.Nodes.{same-node}
 use Rattle.policy.specs.View.{Tasks, cellCount, Cells}
 use Rattle.graph.specs.View.{nodeOf, addNode}
-use Rattle.graph.specs.declared.Node.{Node}
+use Rattle.node.specs.declared.Node.{Node}
 use Rattle.graph.proofs.View.{same-view}
 use Rattle.words.proofs.Memory.{part-length}
 use Rattle.store.specs.declared.Found.{Found}

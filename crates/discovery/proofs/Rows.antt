@@ -8,7 +8,7 @@ use lib.Seq.{take-all, take-append-seam, getD-append-seam, getD-append-add}
 use Rattle.model.specs.Bytes.{overwrite, part}
 use Rattle.words.proofs.Memory.{overwrite-all, overwrite-more, part-more}
 use Rattle.policy.specs.View.{cellCount}
-use Rattle.graph.specs.declared.Node.{Node}
+use Rattle.node.specs.declared.Node.{Node}
 use Rattle.store.specs.Store.{rowBytes}
 use Rattle.discovery.specs.Discovery.{rowOf, nodeIn, takenAt, stateAt}
 

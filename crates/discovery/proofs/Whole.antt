@@ -19,7 +19,7 @@ use Rattle.theory.proofs.Sound.{sound-plan, nextIn-arc}
 use Rattle.plan.specs.View.{arcsIn}
 use Rattle.policy.specs.View.{Tasks, cellCount, Cells, tasksIn, Ruled, PlanFor}
 use Rattle.policy.specs.declared.Rules.{Rules}
-use Rattle.graph.specs.declared.Node as graph
+use Rattle.node.specs.declared.Node as graph
 use Rattle.graph.specs.View.{nodeOf, Planned}
 use Rattle.store.specs.Store.{rowAt}
 use Rattle.discovery.proofs.Held.{held-count, held-node}

@@ -1,5 +1,5 @@
 // The nodes of a plan's graph, discovered in order and kept in the node store.
-use graph::Node;
+use node::Node;
 use policy::Rules;
 use store::Found;
 ghost use mathlib.Core.Path.{_≡_};

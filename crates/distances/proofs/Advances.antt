@@ -17,36 +17,36 @@ use Rattle.theory.proofs.Sound.{sound-plan, label-below}
 use Rattle.policy.specs.View.{Ruled}
 use Rattle.policy.specs.declared.Rules.{Rules}
 use Rattle.graph.specs.View.{Planned}
-use Rattle.potentials.specs.declared.Claim.{Claim}
+use Rattle.distances.specs.declared.Prices.{Prices}
 use Rattle.links.specs.Links.{linksAt, linksSize, stepsSize, stateIn}
 use Rattle.words.proofs.Free.{only-refl, only-trans}
 use Rattle.distances.specs.declared.Tried.{Tried}
 use Rattle.distances.specs.Distances.{LinkOf, SearchIn, Sought, Advance, DoneBy}
 use Rattle.distances.proofs.Rows.{priced-kept}
 
-module _ {P : Plan} {claim : Claim} where
+module _ {P : Plan} {prices : Prices} where
   -- nothing is tried
-  pub advance-none : {m : List ℕ} → SearchIn P claim m → Advance P claim m m (record { moved = false; steps = 0 })
+  pub advance-none : {m : List ℕ} → SearchIn P prices m → Advance P prices m m (record { moved = false; steps = 0 })
   advance-none {m} s = record {
-    progress = λ e. progress-none (LinkOf P claim) s;
+    progress = λ e. progress-none (LinkOf P prices) s;
     links = λ e. only-refl;
     circuit = λ h. absurd (omega arith);
     only = only-refl;
   }
 
-  module _ {m m′ : List ℕ} {t : Tried} (a : Advance P claim m m′ t) (none : t .steps ≡ 0) where
+  module _ {m m′ : List ℕ} {t : Tried} (a : Advance P prices m m′ t) (none : t .steps ≡ 0) where
     -- then more, without a circuit
-    pub advance-then : {m″ : List ℕ} {t′ : Tried} → Advance P claim m′ m″ t′ → t′ .steps ≡ 0 →
-        Advance P claim m m″ (record { moved = t .moved || t′ .moved; steps = 0 })
+    pub advance-then : {m″ : List ℕ} {t′ : Tried} → Advance P prices m′ m″ t′ → t′ .steps ≡ 0 →
+        Advance P prices m m″ (record { moved = t .moved || t′ .moved; steps = 0 })
     advance-then b none′ = record {
-      progress = λ e. progress-then (LinkOf P claim) (a .progress none) (b .progress none′);
+      progress = λ e. progress-then (LinkOf P prices) (a .progress none) (b .progress none′);
       links = λ e. only-trans (a .links none) (b .links none′);
       circuit = λ h. absurd (omega arith);
       only = only-trans (a .only) (b .only);
     }
 
     -- then a circuit
-    pub advance-circuit : {m″ : List ℕ} {t′ : Tried} → Advance P claim m′ m″ t′ → 0 < t′ .steps → Advance P claim m m″ t′
+    pub advance-circuit : {m″ : List ℕ} {t′ : Tried} → Advance P prices m′ m″ t′ → 0 < t′ .steps → Advance P prices m m″ t′
     advance-circuit b found = record {
       progress = λ e. absurd (omega arith);
       links = λ e. absurd (omega arith);
@@ -55,12 +55,12 @@ module _ {P : Plan} {claim : Claim} where
     }
 
     -- the search goes on
-    pub sought-after : {r : Rules} {next : List ℕ} → Sought P r next m claim → Sought P r next m′ claim
+    pub sought-after : {r : Rules} {next : List ℕ} → Sought P r next m prices → Sought P r next m′ prices
     sought-after s = record { priced = priced-kept (a .only) (s .priced); search = a .progress none .search }
 
   -- a label that is done stays so
-  pub done-later : (m m′ : List ℕ) (u : ℕ) {l : ℕ} → Later (claim .n) (stateIn m) (stateIn m′) → stateIn m′ .dist u ≡ stateIn m .dist u →
-      DoneBy P claim m u l → DoneBy P claim m′ u l
+  pub done-later : (m m′ : List ℕ) (u : ℕ) {l : ℕ} → Later (prices .n) (stateIn m) (stateIn m′) → stateIn m′ .dist u ≡ stateIn m .dist u →
+      DoneBy P prices m u l → DoneBy P prices m′ u l
   done-later m m′ u later same done v w h k =
       let was = done v w h k in (
         later .known v h (was .0),
@@ -68,8 +68,8 @@ module _ {P : Plan} {claim : Claim} where
       )
 
   -- where every label is done, the links are
-  pub done-links : {r : Rules} {next : List ℕ} (m : List ℕ) (u : ℕ) → Planned P r next → Ruled r → ((l : ℕ) → l < 2 ^ r .count → DoneBy P claim m u l) →
-      Done (LinkOf P claim) (claim .n) (stateIn m) u
+  pub done-links : {r : Rules} {next : List ℕ} (m : List ℕ) (u : ℕ) → Planned P r next → Ruled r → ((l : ℕ) → l < 2 ^ r .count → DoneBy P prices m u l) →
+      Done (LinkOf P prices) (prices .n) (stateIn m) u
   done-links m u planned ruled done l v w h k =
       let at = mem-edgesAt P (nodeAt P u) l (k .edge) .0 (k .best .edge) in
       done l

@@ -12,7 +12,7 @@ use Rattle.theory.specs.Search.{Progress}
 use Rattle.theory.proofs.Progress.{progress-then, progress-tried, progress-alike}
 use Rattle.policy.specs.View.{Ruled}
 use Rattle.policy.specs.declared.Rules.{Rules}
-use Rattle.potentials.specs.declared.Claim.{Claim}
+use Rattle.distances.specs.declared.Prices.{Prices}
 use Rattle.links.specs.Links.{linkIn, stateIn, tried, marked, Puts}
 use Rattle.words.proofs.Free.{only-trans}
 use Rattle.distances.specs.declared.Tried.{Tried}
@@ -26,38 +26,38 @@ or-false true = refl
 or-false false = refl
 
 -- the labels below one are done, and no circuit was found
-pub record DoneBelow (P : Plan) (claim : Claim) (u label : ℕ) (before after : List ℕ) (moved : Bool) : Type 0 where
-  pub advance : Advance P claim before after (record { moved = moved; steps = 0 })
-  pub done : (l : ℕ) → l < label → DoneBy P claim after u l
+pub record DoneBelow (P : Plan) (prices : Prices) (u label : ℕ) (before after : List ℕ) (moved : Bool) : Type 0 where
+  pub advance : Advance P prices before after (record { moved = moved; steps = 0 })
+  pub done : (l : ℕ) → l < label → DoneBy P prices after u l
 
-module _ {P : Plan} {claim : Claim} {u : ℕ} where
-  pub below-none : {m : List ℕ} → SearchIn P claim m → DoneBelow P claim u 0 m m false
+module _ {P : Plan} {prices : Prices} {u : ℕ} where
+  pub below-none : {m : List ℕ} → SearchIn P prices m → DoneBelow P prices u 0 m m false
   below-none s = record { advance = advance-none s; done = λ l h. absurd (not-suc-le-zero h) }
 
-  module _ {label : ℕ} {m m′ m″ : List ℕ} {moved : Bool} (b : DoneBelow P claim u label m m′ moved) where
+  module _ {label : ℕ} {m m′ m″ : List ℕ} {moved : Bool} (b : DoneBelow P prices u label m m′ moved) where
     -- one label more
-    pub below-more : {t : Tried} → RelaxesLabel P claim u label m′ m″ t → t .steps ≡ 0 →
-        DoneBelow P claim u (label + 1) m m″ (moved || t .moved)
+    pub below-more : {t : Tried} → RelaxesLabel P prices u label m′ m″ t → t .steps ≡ 0 →
+        DoneBelow P prices u (label + 1) m m″ (moved || t .moved)
     below-more {t} r none = record { advance = advance-then (b .advance) refl (r .advance) none; done = λ l h. by l h (ℕ-discrete l label) }
       where
-        by : (l : ℕ) → l < label + 1 → Dec (l ≡ label) → DoneBy P claim m″ u l
-        by l h (yes p) = subst (DoneBy P claim m″ u) (sym p) (r .done none)
+        by : (l : ℕ) → l < label + 1 → Dec (l ≡ label) → DoneBy P prices m″ u l
+        by l h (yes p) = subst (DoneBy P prices m″ u) (sym p) (r .done none)
         by l h (no q) = done-later m′ m″ u (r .advance .progress none .later) (r .source none) (b .done l (omega arith))
 
     -- all labels, and then u is marked
-    pub below-all : {r : Rules} {next : List ℕ} → Sought P r next m claim → Ruled r → label ≡ 2 ^ r .count → u < claim .n →
-        stateIn m .known u ≡ true → Puts u (marked tried (linkIn m′ u)) m′ m″ → RelaxesNode P claim u m m″ (record { moved = moved; steps = 0 })
+    pub below-all : {r : Rules} {next : List ℕ} → Sought P r next m prices → Ruled r → label ≡ 2 ^ r .count → u < prices .n →
+        stateIn m .known u ≡ true → Puts u (marked tried (linkIn m′ u)) m′ m″ → RelaxesNode P prices u m m″ (record { moved = moved; steps = 0 })
     below-all {r} s ruled all below known puts =
         let few = s .priced .holds .rows .index .few in
         let so-far = b .advance .progress refl in
         let links = done-links m′ u (s .priced .planned) ruled (λ l h. b .done l (subst (λ (n : ℕ). l < n) (sym all) h)) in
-        let mark = progress-alike (LinkOf P claim) (omega arith) (progress-tried (LinkOf P claim) u (so-far .search) links)
+        let mark = progress-alike (LinkOf P prices) (omega arith) (progress-tried (LinkOf P prices) u (so-far .search) links)
         (mark-alike puts few (so-far .later .known u below known)) in
         record {
           advance = record {
             progress = λ e.
-                subst (Progress (LinkOf P claim) (claim .n) maxWeight (stateIn m) (stateIn m″)) (or-false moved)
-                (progress-then (LinkOf P claim) so-far mark);
+                subst (Progress (LinkOf P prices) (prices .n) maxWeight (stateIn m) (stateIn m″)) (or-false moved)
+                (progress-then (LinkOf P prices) so-far mark);
             links = λ e. only-trans (b .advance .links refl) (puts .only);
             circuit = λ h. absurd (omega arith);
             only = only-trans (b .advance .only) (only-both (puts .only));

@@ -21,7 +21,7 @@ use Rattle.theory.proofs.Tree.{length-trail, trail-below}
 use Rattle.theory.proofs.Search.{relaxed, Alike, Relaxable, relax-from, search-cycle}
 use Rattle.theory.proofs.Progress.{progress-none, progress-relax, progress-alike}
 use Rattle.theory.proofs.Circuits.{circuit-of}
-use Rattle.potentials.specs.declared.Claim.{Claim}
+use Rattle.distances.specs.declared.Prices.{Prices}
 use Rattle.links.specs.Links.{linksAt, linksSize, stepsSize, linkIn, unknown, waiting, takenIn, stateIn, takenOf, firstSteps, Puts, Climbs, WayUp, Closes}
 use Rattle.links.specs.declared.Link.{Link}
 use Rattle.links.specs.declared.Way.the-variants.{Apart, Above}
@@ -70,10 +70,10 @@ moved = record { moved = true; steps = 0 }
 abbrev closed : ℕ → Tried
 closed j = record { moved = false; steps = j + 1 }
 
-module _ {P : Plan} {claim : Claim} {m : List ℕ} {u l v : ℕ} {z : ℤ} (o : Offer P claim m u l v z) where
+module _ {P : Plan} {prices : Prices} {m : List ℕ} {u l v : ℕ} {z : ℤ} (o : Offer P prices m u l v z) where
   pub offer-climbs : Climbs m u
   offer-climbs = record {
-    count = claim .n;
+    count = prices .n;
     few = o .few;
     room = o .room;
     upward = o .search .tree .upward;
@@ -82,10 +82,10 @@ module _ {P : Plan} {claim : Claim} {m : List ℕ} {u l v : ℕ} {z : ℤ} (o : 
   }
 
   -- the distance is no smaller
-  pub relax-keeps : shorter (linkIn m v) z ≡ false → Relaxes P claim u v z m m kept
+  pub relax-keeps : shorter (linkIn m v) z ≡ false → Relaxes P prices u v z m m kept
   relax-keeps e = record {
     advance = record {
-      progress = λ h. progress-none (LinkOf P claim) (o .search);
+      progress = λ h. progress-none (LinkOf P prices) (o .search);
       links = λ h. only-refl;
       circuit = λ h. absurd (omega (arith, h));
       only = only-refl;
@@ -104,7 +104,7 @@ module _ {P : Plan} {claim : Claim} {m : List ℕ} {u l v : ℕ} {z : ℤ} (o : 
       abbrev link : Link
       link = record { distance = z; parent = u; label = l; mark = waiting }
 
-      can : Relaxable (LinkOf P claim) (claim .n) (stateIn m) u l v (o .weight)
+      can : Relaxable (LinkOf P prices) (prices .n) (stateIn m) u l v (o .weight)
       can = record {
         from = o .from;
         to = o .to;
@@ -118,14 +118,14 @@ module _ {P : Plan} {claim : Claim} {m : List ℕ} {u l v : ℕ} {z : ℤ} (o : 
       }
 
       -- a field of the links afterwards
-      field : {A : Type 0} (f : Link → A) (x : ℕ) → x < claim .n → changed (λ y. f (linkIn m y)) v (f link) x ≡ f (linkIn m′ x)
+      field : {A : Type 0} (f : Link → A) (x : ℕ) → x < prices .n → changed (λ y. f (linkIn m y)) v (f link) x ≡ f (linkIn m′ x)
       field f x h = by (eqb x v) ∙ sym (ap f (puts .links x (omega (arith, o .few))))
         where
           by : (b : Bool) → cond b (f link) (f (linkIn m x)) ≡ f (cond b link (linkIn m x))
           by true = refl
           by false = refl
 
-      alike : Alike (claim .n) (relaxed (stateIn m) u l v (stateIn m .dist u +ℤ o .weight)) (stateIn m′)
+      alike : Alike (prices .n) (relaxed (stateIn m) u l v (stateIn m .dist u +ℤ o .weight)) (stateIn m′)
       alike = record {
         known = λ x h. field (λ k. ltb unknown (k .mark)) x h;
         waiting = λ x h. field (λ k. eqb (k .mark) waiting) x h;
@@ -137,16 +137,16 @@ module _ {P : Plan} {claim : Claim} {m : List ℕ} {u l v : ℕ} {z : ℤ} (o : 
       at-v : linkIn m′ v ≡ link
       at-v = puts .links v (omega (arith, o .few, o .to)) ∙ ap (λ b. cond b link (linkIn m v)) (eq-eqb v v refl)
 
-      pub relax-moves : Relaxes P claim u v z m m′ moved
+      pub relax-moves : Relaxes P prices u v z m m′ moved
       relax-moves = record {
         advance = record {
-          progress = λ h. progress-alike (LinkOf P claim) (omega (arith, o .from)) (progress-relax (LinkOf P claim) (o .within) (o .search) can) alike;
+          progress = λ h. progress-alike (LinkOf P prices) (omega (arith, o .from)) (progress-relax (LinkOf P prices) (o .within) (o .search) can) alike;
           links = λ h. puts .only;
           circuit = λ h. absurd (omega (arith, h));
           only = only-wider (puts .only) linksAt (linksSize + stepsSize) (omega arith) (omega arith);
         };
         reached = λ h. (ap (λ k. ltb unknown (k .mark)) at-v, subst (λ k. k .distance ≤ℤ z) (sym at-v) (≤ℤ-refl z));
-        source = λ h. sym (alike .dist u (o .from)) ∙ relax-from (LinkOf P claim) can;
+        source = λ h. sym (alike .dist u (o .from)) ∙ relax-from (LinkOf P prices) can;
       }
 
     -- v stands above u: the way down and the edge are a circuit
@@ -161,17 +161,17 @@ module _ {P : Plan} {claim : Claim} {m : List ℕ} {u l v : ℕ} {z : ℤ} (o : 
           ∙ ap (λ (k : ℕ). k + 1) (length-trail (stateIn m .parent) (stateIn m .label) j u) ∙ add-one j
 
       -- every node of it is one of the first n
-      nodes-below : (i : ℕ) → i < j + 1 → takenIn m′ i .node < claim .n
+      nodes-below : (i : ℕ) → i < j + 1 → takenIn m′ i .node < prices .n
       nodes-below i h =
           let mem = subst (List·Memᴰ (takenOf (takenIn m′ i))) (closes .steps) (Memᴰ·map (λ x. takenOf (takenIn m′ x)) {a = i} (mem-upFrom 0 (j + 1) (omega arith) (omega arith))) in
           ⊎-elim (λ k. trail-below (o .search .tree .upward) (stateIn m .label) j u (o .from) (o .known) (way .1) (takenOf (takenIn m′ i)) k)
-          (λ k. subst (λ (s : search.Taken). s .node < claim .n) (sym (List·Memᴰ·eq-of-singleton k)) (o .from))
+          (λ k. subst (λ (s : search.Taken). s .node < prices .n) (sym (List·Memᴰ·eq-of-singleton k)) (o .from))
           (List·Memᴰ·append-cases (trail (stateIn m .parent) (stateIn m .label) j u) mem)
 
-      pub relax-closes : Relaxes P claim u v z m m′ (closed j)
+      pub relax-closes : Relaxes P prices u v z m m′ (closed j)
       relax-closes =
-          let c = search-cycle (LinkOf P claim) (o .search) u l v j (o .weight) (o .from) (o .known) (o .link) (below there) (way .0) (way .1) in
-          let path = subst (λ ss. search.Path (LinkOf P claim) v v ss (c .0)) (sym (closes .steps)) (c .1) in record {
+          let c = search-cycle (LinkOf P prices) (o .search) u l v j (o .weight) (o .from) (o .known) (o .link) (below there) (way .0) (way .1) in
+          let path = subst (λ ss. search.Path (LinkOf P prices) v v ss (c .0)) (sym (closes .steps)) (c .1) in record {
             advance = record {
               progress = λ h. absurd (omega (arith, h));
               links = λ h. absurd (omega (arith, h));

@@ -10,12 +10,12 @@ use Rattle.model.specs.Plan.{Plan}
 use Rattle.model.proofs.Lists.{map-same}
 use Rattle.policy.specs.View.{Tasks, cellCount, Cells}
 use Rattle.policy.specs.declared.Rules.{Rules}
-use Rattle.graph.specs.declared.Node.{Node}
+use Rattle.node.specs.declared.Node.{Node}
 use Rattle.store.specs.Store.{rowBytes, maxRows, hashes, bucketsAt, chainAt, rowAt, rowsIn, hashOf, hashAt, lastOf, entryAt, Distinct, Indexed}
 use Rattle.store.proofs.Index.{last-same}
 use Rattle.store.proofs.Rows.{rows-same}
 use Rattle.discovery.specs.Discovery.{nodeIn, viewOf, nodesIn, Holding, Holds}
-use Rattle.potentials.specs.declared.Claim.{Claim}
+use Rattle.distances.specs.declared.Prices.{Prices}
 use Rattle.potentials.specs.Potentials.{Numbered}
 use Rattle.links.specs.Links.{linksAt, linksSize, stepsSize, stepPlace, takenIn, takenOf, firstSteps}
 use Rattle.words.proofs.Free.{only-part, only-wider}
@@ -81,7 +81,7 @@ module _ {k : ℕ} {m m′ : List ℕ} (o : Only linksAt k m m′) where
     nodes = ap (map (viewOf ts)) (rows-kept n (h .rows .index .few)) ∙ h .nodes;
   }
 
-  pub priced-kept : {P : Plan} {r : Rules} {next : List ℕ} {claim : Claim} → Priced P r next m claim → Priced P r next m′ claim
+  pub priced-kept : {P : Plan} {r : Rules} {next : List ℕ} {prices : Prices} → Priced P r next m prices → Priced P r next m′ prices
   priced-kept p = record {
     planned = p .planned;
     holds = holds-kept (p .holds);

@@ -13,36 +13,36 @@ use Rattle.words.proofs.Signed.{up-add, up-or-dn, natAbs-is, ≤ℤ-iff}
 use Rattle.theory.specs.Search.{Within}
 use Rattle.theory.specs.Lightest.{maxWeight}
 use Rattle.theory.proofs.Search.{search-within}
-use Rattle.potentials.specs.declared.Claim.{Claim}
+use Rattle.distances.specs.declared.Prices.{Prices}
 use Rattle.links.specs.Links.{stateIn}
 use Rattle.distances.specs.Distances.{LinkOf, SearchIn, Offer, weightOf, targetOf, distanceBy, Offers}
 use Rattle.distances.specs.declared.Outcomes.{Outcomes}
 
 -- every known distance is within the limit on potentials
-pub distance-small : (P : Plan) (claim : Claim) (m : List ℕ) → SearchIn P claim m → Within (LinkOf P claim) (claim .n) maxWeight → claim .n ≤ maxNodes →
-    (u : ℕ) → u < claim .n → stateIn m .known u ≡ true → natAbs (stateIn m .dist u) ≤ maxPotential
-distance-small P claim m s within few u below known =
+pub distance-small : (P : Plan) (prices : Prices) (m : List ℕ) → SearchIn P prices m → Within (LinkOf P prices) (prices .n) maxWeight → prices .n ≤ maxNodes →
+    (u : ℕ) → u < prices .n → stateIn m .known u ≡ true → natAbs (stateIn m .dist u) ≤ maxPotential
+distance-small P prices m s within few u below known =
     let z = stateIn m .dist u in
-    let range = search-within (LinkOf P claim) s within u below known in
-    let most : claim .n * maxWeight ≤ maxNodes * maxWeight = mul-le-mul-right maxWeight few in
-    let b = claim .n * maxWeight in
+    let range = search-within (LinkOf P prices) s within u below known in
+    let most : prices .n * maxWeight ≤ maxNodes * maxWeight = mul-le-mul-right maxWeight few in
+    let b = prices .n * maxWeight in
     ⊎-elim
     (λ e. omega (arith, e, most, natAbs-is z, up-add z (pos b), ≤ℤ-iff (pos 0) (z +ℤ pos b) .0 (range .1)))
     (λ e. omega (arith, e, most, natAbs-is z, ≤ℤ-iff z (pos b) .0 (range .0)))
     (up-or-dn z)
 
 -- the k-th outcome offers its node at its distance
-pub offer-of : {P : Plan} {claim : Claim} {m notes : List ℕ} {u : ℕ} {out : Outcomes} → Offers P claim m notes u out → (k : ℕ) → k < out .count →
-    {v : ℕ} {z : ℤ} → v ≡ targetOf claim m notes out k → z ≡ distanceBy claim m notes u out k → Offer P claim m u (out .label) v z
-offer-of {P} {claim} {m} {notes} {u} {out} o k h e d = record {
+pub offer-of : {P : Plan} {prices : Prices} {m notes : List ℕ} {u : ℕ} {out : Outcomes} → Offers P prices m notes u out → (k : ℕ) → k < out .count →
+    {v : ℕ} {z : ℤ} → v ≡ targetOf prices m notes out k → z ≡ distanceBy prices m notes u out k → Offer P prices m u (out .label) v z
+offer-of {P} {prices} {m} {notes} {u} {out} o k h e d = record {
   few = o .few;
   room = o .room;
   within = o .within;
   search = o .search;
   from = o .from;
-  to = subst (λ (x : ℕ). x < claim .n) (sym e) (o .below k h);
+  to = subst (λ (x : ℕ). x < prices .n) (sym e) (o .below k h);
   known = o .known;
-  weight = weightOf claim (out .kept) notes (out .count) k;
-  link = subst (λ (x : ℕ). LinkOf P claim u (out .label) x (weightOf claim (out .kept) notes (out .count) k)) (sym e) (o .link k h);
+  weight = weightOf prices (out .kept) notes (out .count) k;
+  link = subst (λ (x : ℕ). LinkOf P prices u (out .label) x (weightOf prices (out .kept) notes (out .count) k)) (sym e) (o .link k h);
   distance = d;
 }

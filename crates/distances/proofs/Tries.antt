@@ -11,7 +11,7 @@ use Rattle.words.proofs.Signed.{≤ℤ-trans}
 use Rattle.graph.specs.Outcomes.{patternIn}
 use Rattle.store.specs.Store.{maxRows, indexIn}
 use Rattle.discovery.specs.Discovery.{rowOf}
-use Rattle.potentials.specs.declared.Claim.{Claim}
+use Rattle.distances.specs.declared.Prices.{Prices}
 use Rattle.potentials.specs.Potentials.{withPattern}
 use Rattle.model.specs.Bytes.{Only}
 use Rattle.links.specs.Links.{linksAt, linksSize, stepsSize, stateIn}
@@ -22,21 +22,21 @@ use Rattle.distances.proofs.Rows.{rows-kept, index-kept, distinct-kept}
 use Rattle.distances.proofs.Advances.{advance-none, advance-then, advance-circuit}
 
 -- the first k outcomes are tried, without a circuit
-pub record Trying (P : Plan) (claim : Claim) (u : ℕ) (out : Outcomes) (notes before m : List ℕ) (moved : Bool) (k : ℕ) : Type 0 where
-  pub offers : Offers P claim m notes u out
-  pub advance : Advance P claim before m (record { moved = moved; steps = 0 })
-  pub reached : (j : ℕ) → j < k → Reached m (targetOf claim before notes out j) (distanceBy claim before notes u out j)
+pub record Trying (P : Plan) (prices : Prices) (u : ℕ) (out : Outcomes) (notes before m : List ℕ) (moved : Bool) (k : ℕ) : Type 0 where
+  pub offers : Offers P prices m notes u out
+  pub advance : Advance P prices before m (record { moved = moved; steps = 0 })
+  pub reached : (j : ℕ) → j < k → Reached m (targetOf prices before notes out j) (distanceBy prices before notes u out j)
   pub source : stateIn m .dist u ≡ stateIn before .dist u
 
 -- the same node, where the rows are the same
-target-kept : (claim : Claim) (out : Outcomes) (notes : List ℕ) {m m′ : List ℕ} → claim .n ≤ maxRows → Only linksAt (linksSize + stepsSize) m m′ → (j : ℕ) →
-    targetOf claim m′ notes out j ≡ targetOf claim m notes out j
-target-kept claim out notes few o j =
-    ap (λ rows. indexIn rows (rowOf (withPattern (out .cells) (out .state) (patternIn notes j)))) (rows-kept o (claim .n) few)
+target-kept : (prices : Prices) (out : Outcomes) (notes : List ℕ) {m m′ : List ℕ} → prices .n ≤ maxRows → Only linksAt (linksSize + stepsSize) m m′ → (j : ℕ) →
+    targetOf prices m′ notes out j ≡ targetOf prices m notes out j
+target-kept prices out notes few o j =
+    ap (λ rows. indexIn rows (rowOf (withPattern (out .cells) (out .state) (patternIn notes j)))) (rows-kept o (prices .n) few)
 
-module _ {P : Plan} {claim : Claim} {u : ℕ} {out : Outcomes} {notes : List ℕ} where
+module _ {P : Plan} {prices : Prices} {u : ℕ} {out : Outcomes} {notes : List ℕ} where
   -- the outcomes stay offered
-  offers-after : {m m′ : List ℕ} {t : Tried} → Offers P claim m notes u out → Advance P claim m m′ t → t .steps ≡ 0 → Offers P claim m′ notes u out
+  offers-after : {m m′ : List ℕ} {t : Tried} → Offers P prices m notes u out → Advance P prices m m′ t → t .steps ≡ 0 → Offers P prices m′ notes u out
   offers-after {m} {m′} o a none =
       let few = o .index .few in record {
         few = o .few;
@@ -52,12 +52,12 @@ module _ {P : Plan} {claim : Claim} {u : ℕ} {out : Outcomes} {notes : List ℕ
         fitsQ = o .fitsQ;
         readable = o .readable;
         noted = o .noted;
-        below = λ j h. subst (λ (x : ℕ). x < claim .n) (sym (target-kept claim out notes few (a .only) j)) (o .below j h);
+        below = λ j h. subst (λ (x : ℕ). x < prices .n) (sym (target-kept prices out notes few (a .only) j)) (o .below j h);
         link = λ j h.
-            subst (λ (x : ℕ). LinkOf P claim u (out .label) x (weightOf claim (out .kept) notes (out .count) j)) (sym (target-kept claim out notes few (a .only) j)) (o .link j h);
+            subst (λ (x : ℕ). LinkOf P prices u (out .label) x (weightOf prices (out .kept) notes (out .count) j)) (sym (target-kept prices out notes few (a .only) j)) (o .link j h);
       }
 
-  pub trying-start : {m : List ℕ} → Offers P claim m notes u out → Trying P claim u out notes m m false 0
+  pub trying-start : {m : List ℕ} → Offers P prices m notes u out → Trying P prices u out notes m m false 0
   trying-start o = record {
     offers = o;
     advance = advance-none (o .search);
@@ -65,14 +65,14 @@ module _ {P : Plan} {claim : Claim} {u : ℕ} {out : Outcomes} {notes : List ℕ
     source = refl;
   }
 
-  module _ {before m m′ : List ℕ} {moved : Bool} {k : ℕ} {t : Tried} (s : Trying P claim u out notes before m moved k) (h : k < out .count)
-      (r : RelaxesOne P claim u out k notes m m′ t) where
+  module _ {before m m′ : List ℕ} {moved : Bool} {k : ℕ} {t : Tried} (s : Trying P prices u out notes before m moved k) (h : k < out .count)
+      (r : RelaxesOne P prices u out k notes m m′ t) where
     -- the k-th as it stood before
-    same-target : (j : ℕ) → targetOf claim m notes out j ≡ targetOf claim before notes out j
-    same-target = target-kept claim out notes (s .offers .index .few) (s .advance .only)
+    same-target : (j : ℕ) → targetOf prices m notes out j ≡ targetOf prices before notes out j
+    same-target = target-kept prices out notes (s .offers .index .few) (s .advance .only)
 
     -- one more is tried
-    pub trying-next : t .steps ≡ 0 → Trying P claim u out notes before m′ (moved || t .moved) (k + 1)
+    pub trying-next : t .steps ≡ 0 → Trying P prices u out notes before m′ (moved || t .moved) (k + 1)
     trying-next none = record {
       offers = offers-after (s .offers) (r .advance) none;
       advance = advance-then (s .advance) refl (r .advance) none;
@@ -80,20 +80,20 @@ module _ {P : Plan} {claim : Claim} {u : ℕ} {out : Outcomes} {notes : List ℕ
       source = r .source none ∙ s .source;
     }
       where
-        by : (j : ℕ) → j < k + 1 → Dec (j < k) → Reached m′ (targetOf claim before notes out j) (distanceBy claim before notes u out j)
+        by : (j : ℕ) → j < k + 1 → Dec (j < k) → Reached m′ (targetOf prices before notes out j) (distanceBy prices before notes u out j)
         by j below (yes l) =
             let was = s .reached j l in
-            let place = subst (λ (x : ℕ). x < claim .n) (same-target j) (s .offers .below j (omega arith)) in
+            let place = subst (λ (x : ℕ). x < prices .n) (same-target j) (s .offers .below j (omega arith)) in
             let later = r .advance .progress none .later in
             (later .known _ place (was .0), ≤ℤ-trans (later .dist _ place (was .0)) (was .1))
         by j below (no l) =
             let e : j ≡ k = omega arith in
-            subst (λ (i : ℕ). Reached m′ (targetOf claim before notes out i) (distanceBy claim before notes u out i)) (sym e)
-            (subst (λ (x : ℕ). Reached m′ x (distanceBy claim before notes u out k)) (same-target k)
-            (subst (λ z. Reached m′ (targetOf claim m notes out k) (z +ℤ weightOf claim (out .kept) notes (out .count) k)) (s .source) (r .reached none)))
+            subst (λ (i : ℕ). Reached m′ (targetOf prices before notes out i) (distanceBy prices before notes u out i)) (sym e)
+            (subst (λ (x : ℕ). Reached m′ x (distanceBy prices before notes u out k)) (same-target k)
+            (subst (λ z. Reached m′ (targetOf prices m notes out k) (z +ℤ weightOf prices (out .kept) notes (out .count) k)) (s .source) (r .reached none)))
 
     -- or it closes a circuit
-    pub trying-stops : 0 < t .steps → RelaxesAll P claim u out notes before m′ t
+    pub trying-stops : 0 < t .steps → RelaxesAll P prices u out notes before m′ t
     trying-stops found = record {
       advance = advance-circuit (s .advance) refl (r .advance) found;
       reached = λ e. absurd (omega arith);
@@ -101,6 +101,6 @@ module _ {P : Plan} {claim : Claim} {u : ℕ} {out : Outcomes} {notes : List ℕ
     }
 
   -- all are tried
-  pub trying-all : {before m : List ℕ} {moved : Bool} {k : ℕ} → Trying P claim u out notes before m moved k → out .count ≤ k →
-      RelaxesAll P claim u out notes before m (record { moved = moved; steps = 0 })
+  pub trying-all : {before m : List ℕ} {moved : Bool} {k : ℕ} → Trying P prices u out notes before m moved k → out .count ≤ k →
+      RelaxesAll P prices u out notes before m (record { moved = moved; steps = 0 })
   trying-all s h = record { advance = s .advance; reached = λ e j l. s .reached j (omega arith); source = λ e. s .source }

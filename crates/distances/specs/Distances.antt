@@ -18,7 +18,7 @@ use Rattle.graph.specs.Label.{Readable}
 use Rattle.graph.specs.View.{Planned}
 use Rattle.store.specs.Store.{rowsIn, Distinct, Indexed}
 use Rattle.discovery.specs.Discovery.{Holds}
-use Rattle.potentials.specs.declared.Claim.{Claim}
+use Rattle.distances.specs.declared.Prices.{Prices}
 use Rattle.potentials.specs.Potentials.{scoreIn, gainIn}
 use Rattle.potentials.specs.Best.{placeOf}
 use Rattle.model.specs.Bytes.{Only}
@@ -27,48 +27,48 @@ use Rattle.distances.specs.declared.Outcomes.{Outcomes}
 use Rattle.distances.specs.declared.Tried.{Tried}
 
 -- a sound plan with its nodes in the store, and a fraction
-pub record Priced (P : Plan) (r : Rules) (next m : List ℕ) (claim : Claim) : Type 0 where
+pub record Priced (P : Plan) (r : Rules) (next m : List ℕ) (prices : Prices) : Type 0 where
   pub planned : Planned P r next
-  pub holds : Holds P (tasksIn r) m (claim .n)
-  pub fraction : fractionOk (claim .p) (claim .q) ≡ true
+  pub holds : Holds P (tasksIn r) m (prices .n)
+  pub fraction : fractionOk (prices .p) (prices .q) ≡ true
   pub room : linksEnd ≤ length m
 
-pub record Pricing (r : Rules) (next m : List ℕ) (claim : Claim) : Type 0 where
+pub record Pricing (r : Rules) (next m : List ℕ) (prices : Prices) : Type 0 where
   pub plan : Plan
-  pub priced : Priced plan r next m claim
+  pub priced : Priced plan r next m prices
 
--- the links at the fraction of a claim
-abbrev pub LinkOf : Plan → Claim → ℕ → ℕ → ℕ → ℤ → Type 0
-LinkOf P claim = Lightest P (claim .p) (claim .q)
+-- the links at the fraction of a prices
+abbrev pub LinkOf : Plan → Prices → ℕ → ℕ → ℕ → ℤ → Type 0
+LinkOf P prices = Lightest P (prices .p) (prices .q)
 
 -- what holds between the turns, in memory
-abbrev pub SearchIn : Plan → Claim → List ℕ → Type 0
-SearchIn P claim m = Search (LinkOf P claim) (claim .n) maxWeight (stateIn m)
+abbrev pub SearchIn : Plan → Prices → List ℕ → Type 0
+SearchIn P prices m = Search (LinkOf P prices) (prices .n) maxWeight (stateIn m)
 
--- the plan whose nodes are in the store is searched at the fraction of a claim
-pub record Sought (P : Plan) (r : Rules) (next m : List ℕ) (claim : Claim) : Type 0 where
-  pub priced : Priced P r next m claim
-  pub search : SearchIn P claim m
+-- the plan whose nodes are in the store is searched at the fraction of a prices
+pub record Sought (P : Plan) (r : Rules) (next m : List ℕ) (prices : Prices) : Type 0 where
+  pub priced : Priced P r next m prices
+  pub search : SearchIn P prices m
 
 -- there is such a plan
-pub record Seeking (r : Rules) (next m : List ℕ) (claim : Claim) : Type 0 where
+pub record Seeking (r : Rules) (next m : List ℕ) (prices : Prices) : Type 0 where
   pub plan : Plan
-  pub sought : Sought plan r next m claim
+  pub sought : Sought plan r next m prices
 
 -- ---- what trying edges leaves
 
 -- the first k steps are a circuit that costs less than 0
-pub record Turned (P : Plan) (claim : Claim) (m : List ℕ) (k : ℕ) : Type 0 where
+pub record Turned (P : Plan) (prices : Prices) (m : List ℕ) (k : ℕ) : Type 0 where
   pub node : ℕ
-  pub below : node < claim .n
-  pub circuit : Circuit P (claim .p) (claim .q) (claim .n) node (firstSteps m k)
-  pub nodes : (i : ℕ) → i < k → takenIn m i .node < claim .n
+  pub below : node < prices .n
+  pub circuit : Circuit P (prices .p) (prices .q) (prices .n) node (firstSteps m k)
+  pub nodes : (i : ℕ) → i < k → takenIn m i .node < prices .n
 
 -- the search has come further, and every byte of no link is as it was; or a circuit stands in the steps, and every byte of neither is
-pub record Advance (P : Plan) (claim : Claim) (before after : List ℕ) (t : Tried) : Type 0 where
-  pub progress : t .steps ≡ 0 → Progress (LinkOf P claim) (claim .n) maxWeight (stateIn before) (stateIn after) (t .moved)
+pub record Advance (P : Plan) (prices : Prices) (before after : List ℕ) (t : Tried) : Type 0 where
+  pub progress : t .steps ≡ 0 → Progress (LinkOf P prices) (prices .n) maxWeight (stateIn before) (stateIn after) (t .moved)
   pub links : t .steps ≡ 0 → Only linksAt linksSize before after
-  pub circuit : 0 < t .steps → Turned P claim after (t .steps) × (t .moved ≡ false)
+  pub circuit : 0 < t .steps → Turned P prices after (t .steps) × (t .moved ≡ false)
   pub only : Only linksAt (linksSize + stepsSize) before after
 
 -- v is known, at a distance of at most z
@@ -78,108 +78,108 @@ Reached m v z = (stateIn m .known v ≡ true) × (stateIn m .dist v ≤ℤ z)
 -- ---- one edge
 
 -- the label l leads from u, which is known, to v: by it v is at the distance z
-pub record Offer (P : Plan) (claim : Claim) (m : List ℕ) (u l v : ℕ) (z : ℤ) : Type 0 where
-  pub few : claim .n ≤ maxNodes
+pub record Offer (P : Plan) (prices : Prices) (m : List ℕ) (u l v : ℕ) (z : ℤ) : Type 0 where
+  pub few : prices .n ≤ maxNodes
   pub room : linksEnd ≤ length m
-  pub within : Within (LinkOf P claim) (claim .n) maxWeight
-  pub search : SearchIn P claim m
-  pub from : u < claim .n
-  pub to : v < claim .n
+  pub within : Within (LinkOf P prices) (prices .n) maxWeight
+  pub search : SearchIn P prices m
+  pub from : u < prices .n
+  pub to : v < prices .n
   pub known : stateIn m .known u ≡ true
   pub weight : ℤ
-  pub link : LinkOf P claim u l v weight
+  pub link : LinkOf P prices u l v weight
   pub distance : z ≡ stateIn m .dist u +ℤ weight
 
--- there is such a plan and claim
+-- there is such a plan and prices
 pub record Offered (m : List ℕ) (u l v : ℕ) (z : ℤ) : Type 0 where
   pub plan : Plan
-  pub claim : Claim
-  pub offer : Offer plan claim m u l v z
+  pub prices : Prices
+  pub offer : Offer plan prices m u l v z
 
 -- the search has come further, and then v is reached at z, and u stands where it did
-pub record Relaxes (P : Plan) (claim : Claim) (u v : ℕ) (z : ℤ) (before after : List ℕ) (t : Tried) : Type 0 where
-  pub advance : Advance P claim before after t
+pub record Relaxes (P : Plan) (prices : Prices) (u v : ℕ) (z : ℤ) (before after : List ℕ) (t : Tried) : Type 0 where
+  pub advance : Advance P prices before after t
   pub reached : t .steps ≡ 0 → Reached after v z
   pub source : t .steps ≡ 0 → stateIn after .dist u ≡ stateIn before .dist u
 
 -- ---- the edges of a label
 
 -- the weight of the edge of the k-th noted pattern, where the policy has gained `kept`
-abbrev pub weightOf : Claim → ℕ → List ℕ → ℕ → ℕ → ℤ
-weightOf claim kept notes count k = pos (claim .q * kept) -ℤ pos (claim .p * gainIn notes count (patternIn notes k))
+abbrev pub weightOf : Prices → ℕ → List ℕ → ℕ → ℕ → ℤ
+weightOf prices kept notes count k = pos (prices .q * kept) -ℤ pos (prices .p * gainIn notes count (patternIn notes k))
 
 -- the number of that pattern's node, and its distance by that edge
-abbrev pub targetOf : Claim → List ℕ → List ℕ → Outcomes → ℕ → ℕ
-targetOf claim m notes out k = placeOf m (claim .n) (out .cells) (out .state) (patternIn notes k)
+abbrev pub targetOf : Prices → List ℕ → List ℕ → Outcomes → ℕ → ℕ
+targetOf prices m notes out k = placeOf m (prices .n) (out .cells) (out .state) (patternIn notes k)
 
-abbrev pub distanceBy : Claim → List ℕ → List ℕ → ℕ → Outcomes → ℕ → ℤ
-distanceBy claim m notes u out k = stateIn m .dist u +ℤ weightOf claim (out .kept) notes (out .count) k
+abbrev pub distanceBy : Prices → List ℕ → List ℕ → ℕ → Outcomes → ℕ → ℤ
+distanceBy prices m notes u out k = stateIn m .dist u +ℤ weightOf prices (out .kept) notes (out .count) k
 
 -- the distance of u with the policy's weight
-abbrev pub highOf : Claim → List ℕ → ℕ → Outcomes → ℤ
-highOf claim m u out = stateIn m .dist u +ℤ pos (claim .q * out .kept)
+abbrev pub highOf : Prices → List ℕ → ℕ → Outcomes → ℤ
+highOf prices m u out = stateIn m .dist u +ℤ pos (prices .q * out .kept)
 
 -- the noted patterns are where a label leads from u, which is known
-pub record Offers (P : Plan) (claim : Claim) (m notes : List ℕ) (u : ℕ) (out : Outcomes) : Type 0 where
-  pub few : claim .n ≤ maxNodes
+pub record Offers (P : Plan) (prices : Prices) (m notes : List ℕ) (u : ℕ) (out : Outcomes) : Type 0 where
+  pub few : prices .n ≤ maxNodes
   pub room : linksEnd ≤ length m
-  pub within : Within (LinkOf P claim) (claim .n) maxWeight
-  pub search : SearchIn P claim m
-  pub index : Indexed m (claim .n)
-  pub distinct : Distinct (rowsIn m (claim .n))
-  pub from : u < claim .n
+  pub within : Within (LinkOf P prices) (prices .n) maxWeight
+  pub search : SearchIn P prices m
+  pub index : Indexed m (prices .n)
+  pub distinct : Distinct (rowsIn m (prices .n))
+  pub from : u < prices .n
   pub known : stateIn m .known u ≡ true
   pub size : length (out .cells) ≡ cellCount
-  pub fitsP : claim .p ≤ maxP
-  pub fitsQ : claim .q ≤ maxQ
+  pub fitsP : prices .p ≤ maxP
+  pub fitsQ : prices .q ≤ maxQ
   pub readable : Readable notes (out .count)
   pub noted : (k : ℕ) → k < out .count → 0 < scoreIn notes (out .count) (patternIn notes k)
-  pub below : (k : ℕ) → k < out .count → targetOf claim m notes out k < claim .n
-  pub link : (k : ℕ) → k < out .count → LinkOf P claim u (out .label) (targetOf claim m notes out k) (weightOf claim (out .kept) notes (out .count) k)
+  pub below : (k : ℕ) → k < out .count → targetOf prices m notes out k < prices .n
+  pub link : (k : ℕ) → k < out .count → LinkOf P prices u (out .label) (targetOf prices m notes out k) (weightOf prices (out .kept) notes (out .count) k)
 
-pub record Offering (claim : Claim) (m notes : List ℕ) (u : ℕ) (out : Outcomes) : Type 0 where
+pub record Offering (prices : Prices) (m notes : List ℕ) (u : ℕ) (out : Outcomes) : Type 0 where
   pub plan : Plan
-  pub offers : Offers plan claim m notes u out
+  pub offers : Offers plan prices m notes u out
 
 -- what holds after the k-th is tried
-abbrev pub RelaxesOne : Plan → Claim → ℕ → Outcomes → ℕ → List ℕ → List ℕ → List ℕ → Tried → Type 0
-RelaxesOne P claim u out k notes before after t =
-    Relaxes P claim u (targetOf claim before notes out k) (distanceBy claim before notes u out k) before after t
+abbrev pub RelaxesOne : Plan → Prices → ℕ → Outcomes → ℕ → List ℕ → List ℕ → List ℕ → Tried → Type 0
+RelaxesOne P prices u out k notes before after t =
+    Relaxes P prices u (targetOf prices before notes out k) (distanceBy prices before notes u out k) before after t
 
 -- the search has come further, and then each of the patterns' nodes is reached, and u stands where it did
-pub record RelaxesAll (P : Plan) (claim : Claim) (u : ℕ) (out : Outcomes) (notes before after : List ℕ) (t : Tried) : Type 0 where
-  pub advance : Advance P claim before after t
+pub record RelaxesAll (P : Plan) (prices : Prices) (u : ℕ) (out : Outcomes) (notes before after : List ℕ) (t : Tried) : Type 0 where
+  pub advance : Advance P prices before after t
   pub reached : t .steps ≡ 0 → (k : ℕ) → k < out .count →
-      Reached after (targetOf claim before notes out k) (distanceBy claim before notes u out k)
+      Reached after (targetOf prices before notes out k) (distanceBy prices before notes u out k)
   pub source : t .steps ≡ 0 → stateIn after .dist u ≡ stateIn before .dist u
 
 -- every node that the label l leads to from u is reached
-abbrev pub DoneBy : Plan → Claim → List ℕ → ℕ → ℕ → Type 0
-DoneBy P claim m u l = (v : ℕ) (w : ℤ) → v < claim .n → LinkOf P claim u l v w → Reached m v (stateIn m .dist u +ℤ w)
+abbrev pub DoneBy : Plan → Prices → List ℕ → ℕ → ℕ → Type 0
+DoneBy P prices m u l = (v : ℕ) (w : ℤ) → v < prices .n → LinkOf P prices u l v w → Reached m v (stateIn m .dist u +ℤ w)
 
 -- the search has come further, and then the label is done, and u stands where it did
-pub record RelaxesLabel (P : Plan) (claim : Claim) (u l : ℕ) (before after : List ℕ) (t : Tried) : Type 0 where
-  pub advance : Advance P claim before after t
-  pub done : t .steps ≡ 0 → DoneBy P claim after u l
+pub record RelaxesLabel (P : Plan) (prices : Prices) (u l : ℕ) (before after : List ℕ) (t : Tried) : Type 0 where
+  pub advance : Advance P prices before after t
+  pub done : t .steps ≡ 0 → DoneBy P prices after u l
   pub source : t .steps ≡ 0 → stateIn after .dist u ≡ stateIn before .dist u
 
 -- ---- nodes
 
 -- the search has come further, and then u, without a move, no longer waits
-pub record RelaxesNode (P : Plan) (claim : Claim) (u : ℕ) (before after : List ℕ) (t : Tried) : Type 0 where
-  pub advance : Advance P claim before after t
+pub record RelaxesNode (P : Plan) (prices : Prices) (u : ℕ) (before after : List ℕ) (t : Tried) : Type 0 where
+  pub advance : Advance P prices before after t
   pub tried : t .steps ≡ 0 → t .moved ≡ false → stateIn after .waiting u ≡ false
 
 -- the search has come further, and then, without a move, no node waits
-pub record Passes (P : Plan) (claim : Claim) (before after : List ℕ) (t : Tried) : Type 0 where
-  pub advance : Advance P claim before after t
-  pub quiet : t .steps ≡ 0 → t .moved ≡ false → Quiet (claim .n) (stateIn after)
+pub record Passes (P : Plan) (prices : Prices) (before after : List ℕ) (t : Tried) : Type 0 where
+  pub advance : Advance P prices before after t
+  pub quiet : t .steps ≡ 0 → t .moved ≡ false → Quiet (prices .n) (stateIn after)
 
 -- ---- the whole search
 
 -- a circuit of k steps; or, for k = 0, a search at rest, and every byte of no link is as it was
-pub record Settles (P : Plan) (claim : Claim) (before after : List ℕ) (k : ℕ) : Type 0 where
-  pub search : k ≡ 0 → SearchIn P claim after × Quiet (claim .n) (stateIn after)
+pub record Settles (P : Plan) (prices : Prices) (before after : List ℕ) (k : ℕ) : Type 0 where
+  pub search : k ≡ 0 → SearchIn P prices after × Quiet (prices .n) (stateIn after)
   pub links : k ≡ 0 → Only linksAt linksSize before after
-  pub circuit : 0 < k → Turned P claim after k
+  pub circuit : 0 < k → Turned P prices after k
   pub only : Only linksAt (linksSize + stepsSize) before after

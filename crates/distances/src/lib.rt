@@ -1,10 +1,9 @@
 // The search for the distances of a plan's nodes at a fraction: passes over the edges, until none gives a smaller distance or a cycle is
 // found that costs less than 0.
-use graph::Node;
+use node::Node;
 use links::Link;
 use links::Way;
 use policy::Rules;
-use potentials::Claim;
 ghost use mathlib.Core.Path.{_≡_};
 ghost use mathlib.Core.Bool.{true, _||_};
 ghost use Prim.Native.Nat.{_<_, _≤_};
@@ -17,6 +16,13 @@ ghost use Rattle.graph.specs.Outcomes.{noteRoom, NotesFree};
 ghost use Rattle.potentials.specs.Potentials.{Numbered};
 ghost use Rattle.links.specs.Links.{unknown, stateIn};
 ghost use Rattle.distances.specs.Distances.{Priced, Pricing, Sought, Seeking, Offer, Offered, Relaxes, highOf, Offers, Offering, RelaxesOne, RelaxesAll, RelaxesLabel, RelaxesNode, Passes, Settles};
+
+// What the search charges for both gains, q for the policy's and p for the clairvoyant's, and the number of nodes.
+pub struct Prices {
+    pub p: u32,
+    pub q: u32,
+    pub n: usize,
+}
 
 // What trying edges did: whether a distance has moved, and the steps of a cycle that was found, 0 for none.
 pub struct Tried {
@@ -46,7 +52,7 @@ fn is_shorter(link: Link, z: i64) -> bool
 // Tries the edge of a label from u to v, by which v is at the distance z.
 fn relax(m: &mut [u8], u: usize, label: u8, v: usize, z: i64) -> Tried
     requires { ⌜ Offered (now m) u label v z ⌝ }
-    ensures { λ t. ⌜ ((P : Plan) (claim : Claim) → Offer P claim (now (m .entry)) u label v z → Relaxes P claim u v z (now (m .entry)) (now (m .exit)) t) ⌝ }
+    ensures { λ t. ⌜ ((P : Plan) (prices : Prices) → Offer P prices (now (m .entry)) u label v z → Relaxes P prices u v z (now (m .entry)) (now (m .exit)) t) ⌝ }
 {
     if !is_shorter(links::link_to(m, v), z) {
         return Tried {
@@ -79,7 +85,7 @@ fn relax(m: &mut [u8], u: usize, label: u8, v: usize, z: i64) -> Tried
 
 // Tries the k-th noted outcome of a label from u: `high` is u's distance with the policy's weight.
 fn relax_outcome(
-    claim: Claim,
+    prices: Prices,
     u: usize,
     out: Outcomes,
     high: i64,
@@ -87,34 +93,34 @@ fn relax_outcome(
     notes: &[u8],
     m: &mut [u8],
 ) -> Tried
-    requires { ⌜ Offering claim (now m) (now notes) u out × (k < out .count) × (high ≡ highOf claim (now m) u out) ⌝ }
-    ensures { λ t. ⌜ ((P : Plan) → Offers P claim (now (m .entry)) (now (notes .entry)) u out → RelaxesOne P claim u out k (now (notes .entry)) (now (m .entry)) (now (m .exit)) t) ⌝ }
+    requires { ⌜ Offering prices (now m) (now notes) u out × (k < out .count) × (high ≡ highOf prices (now m) u out) ⌝ }
+    ensures { λ t. ⌜ ((P : Plan) → Offers P prices (now (m .entry)) (now (notes .entry)) u out → RelaxesOne P prices u out k (now (notes .entry)) (now (m .entry)) (now (m .exit)) t) ⌝ }
 {
     let taken = graph::noted_pattern(notes, out.count, k);
     let gain = graph::best_score(notes, taken as usize) - 1;
-    let z = high - potentials::times(claim.p, gain);
+    let z = high - potentials::times(prices.p, gain);
     let cells = out.cells;
     let row = discovery::row_of(Node {
         cells,
         taken,
         state: out.state,
     });
-    let v = store::find(m, claim.n, &row);
+    let v = store::find(m, prices.n, &row);
     relax(m, u, out.label, v, z)
 }
 
 // Tries the noted outcomes of a label from u.
-fn relax_outcomes(claim: Claim, u: usize, out: Outcomes, notes: &[u8], m: &mut [u8]) -> Tried
-    requires { ⌜ Offering claim (now m) (now notes) u out ⌝ }
-    ensures { λ t. ⌜ ((P : Plan) → Offers P claim (now (m .entry)) (now (notes .entry)) u out → RelaxesAll P claim u out (now (notes .entry)) (now (m .entry)) (now (m .exit)) t) ⌝ }
+fn relax_outcomes(prices: Prices, u: usize, out: Outcomes, notes: &[u8], m: &mut [u8]) -> Tried
+    requires { ⌜ Offering prices (now m) (now notes) u out ⌝ }
+    ensures { λ t. ⌜ ((P : Plan) → Offers P prices (now (m .entry)) (now (notes .entry)) u out → RelaxesAll P prices u out (now (notes .entry)) (now (m .entry)) (now (m .exit)) t) ⌝ }
 {
     let from = links::link_to(m, u);
-    let high = from.distance + potentials::times(claim.q, out.kept);
+    let high = from.distance + potentials::times(prices.q, out.kept);
     let count = out.count;
     let mut moved = false;
     let mut k = 0;
     while k < count {
-        let tried = relax_outcome(claim, u, out, high, k, notes, m);
+        let tried = relax_outcome(prices, u, out, high, k, notes, m);
         if tried.steps != 0 {
             return tried;
         }
@@ -126,7 +132,7 @@ fn relax_outcomes(claim: Claim, u: usize, out: Outcomes, notes: &[u8], m: &mut [
 
 // Tries the edges of a label from the node numbered u.
 fn relax_label(
-    claim: Claim,
+    prices: Prices,
     next: &[u8; plan::PAIRS],
     rules: Rules,
     u: usize,
@@ -135,8 +141,8 @@ fn relax_label(
     notes: &mut [u8],
     m: &mut [u8],
 ) -> Tried
-    requires { ⌜ Ruled rules × Seeking rules (now next) (now m) claim × Numbered (now m) (claim .n) u node × (stateIn (now m) .known u ≡ true) × (noteRoom ≤ length (now notes)) ⌝ }
-    ensures { λ t. ⌜ ((P : Plan) → Sought P rules (now (next .entry)) (now (m .entry)) claim → RelaxesLabel P claim u label (now (m .entry)) (now (m .exit)) t) ⌝ }
+    requires { ⌜ Ruled rules × Seeking rules (now next) (now m) prices × Numbered (now m) (prices .n) u node × (stateIn (now m) .known u ≡ true) × (noteRoom ≤ length (now notes)) ⌝ }
+    ensures { λ t. ⌜ ((P : Plan) → Sought P rules (now (next .entry)) (now (m .entry)) prices → RelaxesLabel P prices u label (now (m .entry)) (now (m .exit)) t) ⌝ }
     ensures { λ _. ⌜ NotesFree (now (notes .entry)) (now (notes .exit)) ⌝ }
 {
     let to = plan::next_state(next, node.state, label);
@@ -156,20 +162,20 @@ fn relax_label(
         state: to - 1,
         kept: done.gain as u32,
     };
-    relax_outcomes(claim, u, out, notes, m)
+    relax_outcomes(prices, u, out, notes, m)
 }
 
 // Tries the edges of the node numbered u, labels upward, if it waits.
 fn relax_node(
-    claim: Claim,
+    prices: Prices,
     next: &[u8; plan::PAIRS],
     rules: Rules,
     u: usize,
     notes: &mut [u8],
     m: &mut [u8],
 ) -> Tried
-    requires { ⌜ Ruled rules × Seeking rules (now next) (now m) claim × (u < claim .n) × (noteRoom ≤ length (now notes)) ⌝ }
-    ensures { λ t. ⌜ ((P : Plan) → Sought P rules (now (next .entry)) (now (m .entry)) claim → RelaxesNode P claim u (now (m .entry)) (now (m .exit)) t) ⌝ }
+    requires { ⌜ Ruled rules × Seeking rules (now next) (now m) prices × (u < prices .n) × (noteRoom ≤ length (now notes)) ⌝ }
+    ensures { λ t. ⌜ ((P : Plan) → Sought P rules (now (next .entry)) (now (m .entry)) prices → RelaxesNode P prices u (now (m .entry)) (now (m .exit)) t) ⌝ }
     ensures { λ _. ⌜ NotesFree (now (notes .entry)) (now (notes .exit)) ⌝ }
 {
     let mut moved = false;
@@ -182,7 +188,7 @@ fn relax_node(
     let labels = 1u8 << rules.count;
     let mut label = 0;
     while label < labels {
-        let tried = relax_label(claim, next, rules, u, node, label, notes, m);
+        let tried = relax_label(prices, next, rules, u, node, label, notes, m);
         if tried.steps != 0 {
             return tried;
         }
@@ -195,21 +201,21 @@ fn relax_node(
 
 // Tries the edges of every node that waits, nodes by number.
 fn pass(
-    claim: Claim,
+    prices: Prices,
     next: &[u8; plan::PAIRS],
     rules: Rules,
     notes: &mut [u8],
     m: &mut [u8],
 ) -> Tried
-    requires { ⌜ Ruled rules × Seeking rules (now next) (now m) claim × (noteRoom ≤ length (now notes)) ⌝ }
-    ensures { λ t. ⌜ ((P : Plan) → Sought P rules (now (next .entry)) (now (m .entry)) claim → Passes P claim (now (m .entry)) (now (m .exit)) t) ⌝ }
+    requires { ⌜ Ruled rules × Seeking rules (now next) (now m) prices × (noteRoom ≤ length (now notes)) ⌝ }
+    ensures { λ t. ⌜ ((P : Plan) → Sought P rules (now (next .entry)) (now (m .entry)) prices → Passes P prices (now (m .entry)) (now (m .exit)) t) ⌝ }
     ensures { λ _. ⌜ NotesFree (now (notes .entry)) (now (notes .exit)) ⌝ }
 {
-    let n = claim.n;
+    let n = prices.n;
     let mut moved = false;
     let mut u = 0;
     while u < n {
-        let tried = relax_node(claim, next, rules, u, notes, m);
+        let tried = relax_node(prices, next, rules, u, notes, m);
         if tried.steps != 0 {
             return tried;
         }
@@ -221,21 +227,21 @@ fn pass(
 
 // Finds the distances of all nodes, and gives 0; or the number of steps of a cycle that costs less than 0.
 pub fn settle(
-    claim: Claim,
+    prices: Prices,
     next: &[u8; plan::PAIRS],
     rules: Rules,
     notes: &mut [u8],
     m: &mut [u8],
 ) -> usize
-    requires { ⌜ Ruled rules × Pricing rules (now next) (now m) claim × (noteRoom ≤ length (now notes)) ⌝ }
-    ensures { λ k. ⌜ ((P : Plan) → Priced P rules (now (next .entry)) (now (m .entry)) claim → Settles P claim (now (m .entry)) (now (m .exit)) k) ⌝ }
+    requires { ⌜ Ruled rules × Pricing rules (now next) (now m) prices × (noteRoom ≤ length (now notes)) ⌝ }
+    ensures { λ k. ⌜ ((P : Plan) → Priced P rules (now (next .entry)) (now (m .entry)) prices → Settles P prices (now (m .entry)) (now (m .exit)) k) ⌝ }
     ensures { λ _. ⌜ NotesFree (now (notes .entry)) (now (notes .exit)) ⌝ }
 {
     links::begin(m);
     let mut moved = true;
     let mut steps = 0;
     while moved {
-        let tried = pass(claim, next, rules, notes, m);
+        let tried = pass(prices, next, rules, notes, m);
         moved = tried.moved;
         steps = tried.steps;
     }

@@ -1,11 +1,12 @@
 // The fraction: lowest terms, limits, thousandths.
+use node::Node;
 ghost use mathlib.Core.Path.{_≡_};
 ghost use Rattle.model.specs.Check as check-model;
 ghost use Rattle.fraction.specs.View.{permilleOf};
 
-const MAX_P: u32 = limits::MAX_P;
+const MAX_P: u32 = Node::MAX_P;
 
-const MAX_Q: u32 = limits::MAX_Q;
+const MAX_Q: u32 = Node::MAX_Q;
 
 // 1000 p / q rounded down, or none for 1/0.
 pub enum Permille {

@@ -17,17 +17,18 @@ use Rattle.model.specs.Graph.{choices, edgeOf, edgesTo, edgesAt, edges}
 use Rattle.model.specs.Limits.{maxStates}
 use Rattle.model.specs.Lists.{sameNumbers, flatMap, upFrom}
 use Rattle.model.specs.Plan.{Plan, nextIn}
-use Rattle.model.specs.Slot.{Done, slot}
+use Rattle.model.specs.Slot.{Done, slot, ready}
 use Rattle.model.proofs.Lists.{flatMap-append, upFrom-append, mem-of-upFrom}
 use Rattle.theory.proofs.Edges.{mem-edgesAt}
-use Rattle.theory.proofs.Sound.{PlanSound, sound-plan, label-below}
+use Rattle.theory.proofs.Sound.{sound-plan, label-below}
 use Rattle.plan.specs.View.{arcsIn}
-use Rattle.policy.specs.View.{Tasks, cellCount, jobsOf, Cells, tasksIn}
+use Rattle.policy.specs.View.{cellCount, jobsOf, Cells, tasksIn, Ruled}
+use Rattle.policy.proofs.Plans.{states-fit}
 use Rattle.policy.specs.declared.Rules.{Rules}
-use Rattle.graph.specs.View.{nodeOf, Planned}
+use Rattle.graph.specs.View.{nodeOf, Planned, planBy, TableFits}
 use Rattle.graph.specs.Choice.{Led, findChoice, ledBy, choiceOf}
 use Rattle.graph.specs.Edge.{End, endIn, noEdge, Stepped}
-use Rattle.graph.specs.declared.Node.{Node}
+use Rattle.node.specs.declared.Node.{Node}
 use Rattle.graph.specs.declared.Edge.{Edge}
 
 module _ (s : Step) where
@@ -101,14 +102,15 @@ module _ (s : Step) where
     unfolding edges
     find-past le = find-others (upFrom 0 (2 ^ length (P .tasks))) (λ l m e. omega (arith, mem-of-upFrom 0 (2 ^ length (P .tasks)) m))
 
-    -- a sound plan admits no other label
-    find-at : PlanSound P → findStep s (edges P u) ≡ findStep s (edgesAt P u (s .label))
+    -- where no other label is admitted
+    find-at : ((t : ℕ) → nextIn (P .arcs) (u .state) (s .label) ≡ some t → s .label < 2 ^ length (P .tasks)) →
+        findStep s (edges P u) ≡ findStep s (edgesAt P u (s .label))
     unfolding edgesAt
-    find-at sd = by (decLt (s .label) (2 ^ length (P .tasks)))
+    find-at low = by (decLt (s .label) (2 ^ length (P .tasks)))
       where
         idle : 2 ^ length (P .tasks) ≤ s .label → (o : Option ℕ) → nextIn (P .arcs) (u .state) (s .label) ≡ o → findStep s (edgesTo P u (s .label) o) ≡ none
         idle le none e = refl
-        idle le (some t) e = absurd (omega (arith, label-below P sd (u .state) (s .label) t e))
+        idle le (some t) e = absurd (omega (arith, low t e))
 
         by : Dec (s .label < 2 ^ length (P .tasks)) → findStep s (edges P u) ≡ findStep s (edgesAt P u (s .label))
         by (yes lt) = find-label lt
@@ -143,7 +145,10 @@ find-choice P u s t (ms ∷ cs) =
     by true h = refl
     by false h = h
 
-module _ (P : Plan) (r : Rules) (next : List ℕ) (planned : Planned P r next) (u : Node) (l : ℕ) (ms : List ℕ) where
+module _ (r : Rules) (size : length (tasksIn r) ≡ r .count) (next : List ℕ) (table : TableFits next (r .count)) (u : Node) (l : ℕ) (ms : List ℕ) where
+  abbrev P : Plan
+  P = planBy r next maxStates
+
   abbrev step : Step
   step = record { label = l; masks = ms }
 
@@ -154,8 +159,8 @@ module _ (P : Plan) (r : Rules) (next : List ℕ) (planned : Planned P r next) (
   find-next : (o : Option ℕ) → o ≡ nextIn (arcsIn next) (u .state) l → findStep step (edges P node) ≡ findStep step (edgesTo P node l o)
   unfolding edgesAt
   find-next o e =
-      find-at step P node (sound-plan P (planned .sound))
-      ∙ ap (λ k. findStep step (edgesTo P node l k)) (ap (λ as′. nextIn as′ (u .state) l) (planned .arcs) ∙ sym e)
+      find-at step P node (λ t admitted. subst (λ (n : ℕ). l < 2 ^ n) (sym size) (table .labels (u .state) l t admitted))
+      ∙ ap (λ k. findStep step (edgesTo P node l k)) (sym e)
 
   -- no next state, no edge
   pub edge-none : none ≡ nextIn (arcsIn next) (u .state) l → endIn (findStep step (edges P node)) ≡ none
@@ -167,12 +172,40 @@ module _ (P : Plan) (r : Rules) (next : List ℕ) (planned : Planned P r next) (
   unfolding choiceOf
   edge-some t e d slotted o chosen =
       ap endIn (find-next (some t) e) ∙ find-choice P node step t (choices (P .tasks) l (u .taken))
-      ∙ ap (λ (ts : Tasks). endBy (slot P (jobsOf (tasksIn r) (u .cells)) l) t (choiceOf ts l (u .taken) ms)) (planned .for .tasks)
       ∙ sym (λ i. endBy (slotted i) t (chosen i))
 
--- where the plans have no edge, none is right
+-- where there is no edge, none is right
 pub stepped-none : (next : List ℕ) (r : Rules) (u : Node) (l : ℕ) (ms : List ℕ) (e : Edge) → e ≡ noEdge u → Cells (tasksIn r) cellCount (u .cells) → u .state < maxStates
-    → ((P : Plan) → Planned P r next → endIn (findStep (record { label = l; masks = ms }) (edges P (nodeOf (tasksIn r) u))) ≡ none) → Stepped next r u l ms e
-stepped-none next r u l ms e is cells state absent =
+    → endIn (findStep (record { label = l; masks = ms }) (edges (planBy r next maxStates) (nodeOf (tasksIn r) u))) ≡ none → Stepped next r u l ms e
+stepped-none next r u l ms e is cells state missing =
     subst (Stepped next r u l ms) (sym is)
-    (record { edge = λ P planned. sym (absent P planned); cells = cells; state = state; kept = omega arith; ideal = omega arith })
+    (record { edge = sym missing; absent = λ f. refl; cells = cells; state = state; kept = omega arith; ideal = omega arith })
+
+-- ---- the plans of a table
+
+-- edges do not depend on the number of states
+states-free : (r : Rules) (next : List ℕ) (a b : ℕ) (u : model.Node) → edges (planBy r next a) u ≡ edges (planBy r next b) u
+unfolding edges edgesAt edgeOf slot ready
+states-free r next a b u =
+    ap (λ (f : ℕ → List model.Edge). flatMap f (upFrom 0 (2 ^ length (tasksIn r)))) (λ i l. to l (nextIn (arcsIn next) (u .state) l) i)
+  where
+    to : (l : ℕ) (o : Option ℕ) → edgesTo (planBy r next a) u l o ≡ edgesTo (planBy r next b) u l o
+    to l none = refl
+    to l (some t) = refl
+
+module _ {P : Plan} {r : Rules} {next : List ℕ} (planned : Planned P r next) where
+  -- a plan's edges are those of its rules and its table
+  pub planned-edges : (u : model.Node) → edges P u ≡ edges (planBy r next maxStates) u
+  planned-edges u =
+      ap (λ (Q : Plan). edges Q u)
+      (λ i. record { tasks = planned .for .tasks i; policy = planned .for .policy i; states = P .states; arcs = planned .arcs i })
+      ∙ states-free r next (P .states) maxStates u
+
+  -- and a sound plan's table fits
+  pub planned-table : Ruled r → TableFits next (r .count)
+  planned-table ruled = record {
+    states = states-fit P (planned .sound) next (planned .arcs);
+    labels = λ s l t e.
+        subst (λ (n : ℕ). l < 2 ^ n) (ap length (planned .for .tasks) ∙ ruled .size)
+        (label-below P (sound-plan P (planned .sound)) s l t (ap (λ as′. nextIn as′ s l) (planned .arcs) ∙ e));
+  }

@@ -287,6 +287,10 @@ notes-cleared m room = record {
         ap₂ (λ a b. record { score = number a; masks = b }) (part-zeros m (p * bestBytes) scoreBytes room (omega arith))
         (part-zeros m (p * bestBytes + scoreBytes) maxTasks room (omega arith))))
 
+-- room for notes
+pub notes-long : {r : List ℕ} → r ≡ replicate noteRoom 0 → length r ≡ noteRoom
+notes-long e = ap length e ∙ length-replicate {A = ℕ} noteRoom 0
+
 -- ---- reading notes
 
 module _ (m : List ℕ) (count : ℕ) where

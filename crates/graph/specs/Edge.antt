@@ -7,11 +7,10 @@ use Prim.Native.Nat.{ℕ, _*_, _<_, _≤_}
 use Rattle.model.specs.Check.{findStep}
 use Rattle.model.specs.Graph as model
 use Rattle.model.specs.Limits.{maxTasks, maxValue, maxStates}
-use Rattle.model.specs.Plan.{Plan}
 use Rattle.policy.specs.View.{Tasks, cellCount, Cells, tasksIn}
 use Rattle.policy.specs.declared.Rules.{Rules}
-use Rattle.graph.specs.View.{nodeOf, Planned}
-use Rattle.graph.specs.declared.Node.{Node}
+use Rattle.graph.specs.View.{nodeOf, planBy}
+use Rattle.node.specs.declared.Node.{Node}
 use Rattle.graph.specs.declared.Edge.{Edge}
 
 -- the end of an edge: where it leads, and both gains
@@ -37,9 +36,10 @@ edgeEnd ts e = cond (e .found) (some (record { to = nodeOf ts (e .to); kept = e 
 abbrev pub noEdge : Node → Edge
 noEdge u = record { found = false; to = u; kept = 0; ideal = 0 }
 
--- the edge of the node u with this label and these masks, and a node and gains within their limits
+-- the edge of the node u with this label and these masks, a node and gains within their limits, and none where there is no edge
 pub record Stepped (next : List ℕ) (r : Rules) (u : Node) (l : ℕ) (ms : List ℕ) (e : Edge) : Type 0 where
-  pub edge : (P : Plan) → Planned P r next → edgeEnd (tasksIn r) e ≡ endIn (findStep (record { label = l; masks = ms }) (model.edges P (nodeOf (tasksIn r) u)))
+  pub edge : edgeEnd (tasksIn r) e ≡ endIn (findStep (record { label = l; masks = ms }) (model.edges (planBy r next maxStates) (nodeOf (tasksIn r) u)))
+  pub absent : e .found ≡ false → e ≡ noEdge u
   pub cells : Cells (tasksIn r) cellCount (e .to .cells)
   pub state : e .to .state < maxStates
   pub kept : e .kept ≤ maxValue

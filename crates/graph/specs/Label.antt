@@ -7,7 +7,7 @@ use Rattle.model.specs.Lists.{upFrom}
 use Rattle.policy.specs.View.{tasksIn, Slotted}
 use Rattle.policy.specs.declared.Rules.{Rules}
 use Rattle.graph.specs.Outcomes.{patternCount, noteRoom, NotesFree, patternIn, notesIn, notedOf, nothingNoted}
-use Rattle.graph.specs.declared.Node.{Node}
+use Rattle.node.specs.declared.Node.{Node}
 use Rattle.graph.specs.declared.Noted.{Noted}
 
 -- the first k patterns in the notes

@@ -1,4 +1,5 @@
-// The graph of a plan: its nodes, and where a label leads from a node.
+// The graph of a plan: where a label leads from a node.
+use node::Node;
 use plan::Task;
 use policy::Done;
 use policy::Rules;
@@ -7,57 +8,18 @@ ghost use mathlib.Core.Bool.{cond};
 ghost use mathlib.Core.List.{[], _∷_, _++_};
 ghost use Prim.Native.Nat.{ℕ, _+_, _*_, _/_, _%_, _^_, _≤_, _<_};
 ghost use lib.Dec.{eqb};
-ghost use lib.ListN.{length, getD, drop};
+ghost use lib.ListN.{length, getD, drop, replicate};
 ghost use Rattle.model.specs.Bytes.{bytes, overwrite};
 ghost use Rattle.model.specs.Limits.{maxTasks, maxWindow, maxValue, maxStates};
 ghost use Rattle.model.specs.Masks.{maskCount, maskTable};
 ghost use Rattle.model.specs.Slot.{noTask};
-ghost use Rattle.plan.specs.View.{taskView, StatesFit};
+ghost use Rattle.plan.specs.View.{taskView};
 ghost use Rattle.policy.specs.View.{cellCount, Cells, tasksIn, Ruled};
 ghost use Rattle.graph.specs.Outcomes.{outcomes, scoreBytes, bestBytes, noteRoom, patternCount, notNoted, patternIn, notesIn, Room, Noting, Cleared, tasksReleased, Released, InBounds, chosenWith, outcomeIn, nextOutcomes, maskOutcomes};
 ghost use Rattle.graph.specs.Choice.{choiceOf, ledOf, leadGain, fitsTask, allZero, nextChoice};
 ghost use Rattle.graph.specs.Edge.{noEdge, Stepped};
 ghost use Rattle.graph.specs.Label.{Readable, Reaches};
-ghost use Rattle.graph.specs.View.{Starts};
-
-// A node: the cells of the policy's jobs, the pattern of taken slots, and the automaton's state.
-pub struct Node {
-    pub cells: [u8; policy::CELLS],
-    pub taken: u8,
-    pub state: u8,
-}
-
-impl Node {
-    // The most nodes and tasks of a plan, the longest window, and the patterns of taken slots.
-    pub const MAX_NODES: usize = limits::MAX_NODES;
-
-    pub const MAX_TASKS: usize = limits::MAX_TASKS;
-
-    pub const MAX_WINDOW: usize = limits::MAX_WINDOW;
-
-    pub const PATTERNS: usize = 1 << (Node::MAX_WINDOW - 1);
-
-    // The policies.
-    pub const EDF: u8 = limits::EDF;
-
-    pub const SRT: u8 = limits::SRT;
-
-    pub const FIFO: u8 = limits::FIFO;
-
-    pub const SP: u8 = limits::SP;
-
-    // The start node: no jobs, no taken slot, state 0.
-    pub fn start() -> Node
-        ensures { λ r. ⌜ Starts r ⌝ }
-    {
-        let cells = policy::no_jobs();
-        Node {
-            cells,
-            taken: 0,
-            state: 0,
-        }
-    }
-}
+ghost use Rattle.graph.specs.View.{TableFits};
 
 const MAX_TASKS: usize = Node::MAX_TASKS;
 
@@ -215,7 +177,7 @@ fn note_masks(
 
 // Room for notes.
 pub fn note_space() -> [u8; NOTE_ROOM]
-    ensures { λ r. ⌜ length r ≡ noteRoom ⌝ }
+    ensures { λ r. ⌜ r ≡ replicate noteRoom 0 ⌝ }
 {
     [0; NOTE_ROOM]
 }
@@ -419,7 +381,7 @@ pub fn edge_by(
     label: u8,
     masks: [u8; MAX_TASKS],
 ) -> Edge
-    requires { ⌜ Ruled rules × Cells (tasksIn rules) cellCount (node .cells) × StatesFit (now next) × (node .state < maxStates) × (length masks ≡ maxTasks) ⌝ }
+    requires { ⌜ Ruled rules × Cells (tasksIn rules) cellCount (node .cells) × TableFits (now next) (rules .count) × (node .state < maxStates) × (length masks ≡ maxTasks) ⌝ }
     ensures { λ r. ⌜ Stepped (now (next .entry)) rules node label masks r ⌝ }
 {
     let entry = plan::next_state(next, node.state, label);

@@ -1,4 +1,5 @@
 // What a search for distances has found, in lent memory behind the store: a link to each node, and the steps of a cycle.
+use node::Node;
 ghost use mathlib.Core.Path.{_≡_};
 ghost use Prim.Native.Nat.{_+_, _≤_, _<_};
 ghost use lib.ListN.{length};
@@ -40,7 +41,7 @@ const STEP_BYTES: usize = 3;
 
 const LINKS: usize = store::STORE_BYTES;
 
-const STEPS: usize = LINKS + LINK_BYTES * limits::MAX_NODES;
+const STEPS: usize = LINKS + LINK_BYTES * Node::MAX_NODES;
 
 // The link to the node v.
 pub fn link_to(m: &[u8], v: usize) -> Link
@@ -106,7 +107,7 @@ pub fn begin(m: &mut [u8])
     requires { ⌜ linksEnd ≤ length (now m) ⌝ }
     ensures { λ _. ⌜ Begins (now (m .entry)) (now (m .exit)) ⌝ }
 {
-    words::fill(m, LINKS, LINK_BYTES * limits::MAX_NODES, 0);
+    words::fill(m, LINKS, LINK_BYTES * Node::MAX_NODES, 0);
     put_link(
         m,
         0,

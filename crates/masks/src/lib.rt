@@ -1,4 +1,5 @@
 // The masks of eight bits, in the order of the constant table.
+use node::Node;
 ghost use mathlib.Core.Path.{_≡_};
 ghost use Prim.Native.Nat.{suc, _+_, _<_, _≤_, _^_};
 ghost use lib.Dec.{ltb};
@@ -9,7 +10,7 @@ ghost use Rattle.model.specs.Masks.{maskCount, maskTable, group, groupStart};
 ghost use Rattle.masks.specs.Clear.{NextClear};
 
 // How many masks there are.
-pub const COUNT: usize = 1 << limits::MAX_WINDOW;
+pub const COUNT: usize = 1 << Node::MAX_WINDOW;
 
 // The table of all masks.
 pub fn table() -> [u8; COUNT]

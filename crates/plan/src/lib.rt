@@ -1,4 +1,5 @@
 // The plan reader: plan bytes in, the plan as a struct by value out, or the fault.
+use node::Node;
 ghost use mathlib.Core.Path.{_≡_};
 ghost use Prim.Native.Nat.{_+_, _*_, _^_, _<_, _≤_};
 ghost use mathlib.Core.List.{List};
@@ -7,16 +8,16 @@ ghost use Rattle.model.specs.Plan.{Arc, nextIn, width, mayFollow, between, task
 ghost use Rattle.model.specs.Limits.{maxTasks, maxStates};
 ghost use Rattle.plan.specs.View.{faultNumber, checkNumber, answerOf, answerWith, planRead, readingOf, nothingReadWith, arcsIn, nextOf, labelCount, pairCount, Sized, Within, Least, Holds, Readable, ReadableArc, Reads, ReadsAside};
 
-const MAX_TASKS: usize = limits::MAX_TASKS;
+const MAX_TASKS: usize = Node::MAX_TASKS;
 
-const MAX_WINDOW: u8 = limits::MAX_WINDOW as u8;
+const MAX_WINDOW: u8 = Node::MAX_WINDOW as u8;
 
-const MAX_STATES: u8 = limits::MAX_STATES as u8;
+const MAX_STATES: u8 = Node::MAX_STATES as u8;
 
 // The labels of a state stand side by side in the table of next states.
 pub const LABELS: usize = 1 << MAX_TASKS;
 
-pub const PAIRS: usize = limits::MAX_STATES * LABELS;
+pub const PAIRS: usize = Node::MAX_STATES * LABELS;
 
 pub struct Task {
     pub work: u8,
@@ -173,7 +174,7 @@ fn in_range(r: Reading, c: u8, x: u8, y: u8, z: u8) -> bool
 {
     match c {
         1 => task_in_range(x, y, z),
-        2 => up_to(x, 4),
+        2 => up_to(x, Node::SP),
         3 => up_to(x, MAX_STATES),
         4 => arc_in_range(r, x, y, z),
         _ => true,

@@ -1,5 +1,6 @@
 // One slot of a policy. A node's jobs are cells, oldest first, one to a task in each age: the cell of age a and
 // task i is at (MAX_WINDOW - 1 - a) * MAX_TASKS + i - 1 and holds the work remaining, 0 for no job.
+use node::Node;
 use plan::Plan;
 use plan::Task;
 ghost use mathlib.Core.Path.{_≡_};
@@ -15,21 +16,21 @@ ghost use Rattle.model.specs.Plan.{IsSound};
 ghost use Rattle.plan.specs.View.{taskView, tasksOf, planOf, Sized};
 ghost use Rattle.policy.specs.View.{Tasks, cellCount, slotCells, taskAt, leftIn, leftTable, jobIn, jobsOf, TasksInRange, Cells, Leaves, Filled, Low, hasWork, newWork, keyNumber, keyIn, codeIn, Chosen, tasksIn, Ruled, RulesOf, Slotted};
 
-const MAX_TASKS: usize = limits::MAX_TASKS;
+const MAX_TASKS: usize = Node::MAX_TASKS;
 
-const MAX_WINDOW: usize = limits::MAX_WINDOW;
+const MAX_WINDOW: usize = Node::MAX_WINDOW;
 
 // Cells between slots, where no job has age 0, and during a slot, where the new jobs are the last.
-pub const CELLS: usize = MAX_TASKS * (MAX_WINDOW - 1);
+pub const CELLS: usize = Node::CELLS;
 
 pub const SLOT_CELLS: usize = MAX_TASKS * MAX_WINDOW;
 
 // The policies; any other number is static priority.
-const EDF: u8 = limits::EDF;
+const EDF: u8 = Node::EDF;
 
-const SRT: u8 = limits::SRT;
+const SRT: u8 = Node::SRT;
 
-const FIFO: u8 = limits::FIFO;
+const FIFO: u8 = Node::FIFO;
 
 // The parts of a key are below these: a task, slots left or work, a cell.
 const TASK_BASE: u16 = MAX_TASKS as u16 + 1;

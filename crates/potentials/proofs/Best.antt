@@ -13,7 +13,7 @@ use Rattle.policy.specs.declared.Rules.{Rules}
 use Rattle.graph.specs.Outcomes as outcomes
 use Rattle.graph.specs.Outcomes.{patternCount, Notes, patternIn, notesIn, notedOf, nothingNoted}
 use Rattle.graph.specs.View.{nodeOf}
-use Rattle.graph.specs.declared.Node.{Node}
+use Rattle.node.specs.declared.Node.{Node}
 use Rattle.graph.specs.declared.Noted.{Noted}
 use Rattle.graph.proofs.Outcomes.{bestAt, scoreAt, choice-noted, noted-choice}
 use Rattle.store.specs.Store.{rowAt}

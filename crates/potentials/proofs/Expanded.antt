@@ -22,7 +22,7 @@ use Rattle.policy.specs.View.{Tasks, jobsOf, tasksIn}
 use Rattle.policy.specs.declared.Rules.{Rules}
 use Rattle.graph.specs.Outcomes.{Notes, patternIn, notesIn, notedOf, nothingNoted}
 use Rattle.graph.specs.View.{nodeOf}
-use Rattle.graph.specs.declared.Node.{Node}
+use Rattle.node.specs.declared.Node.{Node}
 use Rattle.graph.specs.declared.Noted.{Noted}
 use Rattle.discovery.proofs.Held.{held-node}
 use Rattle.potentials.specs.Potentials.{withPattern}

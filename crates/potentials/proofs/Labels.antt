@@ -26,7 +26,7 @@ use Rattle.graph.specs.Outcomes as outcomes
 use Rattle.graph.specs.Outcomes.{Notes, patternIn, notesIn}
 use Rattle.graph.specs.Label.{orderIn, Reaches}
 use Rattle.graph.specs.View.{nodeOf}
-use Rattle.graph.specs.declared.Node.{Node}
+use Rattle.node.specs.declared.Node.{Node}
 use Rattle.graph.specs.declared.Noted.{Noted}
 use Rattle.potentials.specs.declared.Claim.{Claim}
 use Rattle.potentials.specs.Potentials.{Test, Numbered, withPattern, gainIn, patternOk, maxCharge, maxHigh, Charged}

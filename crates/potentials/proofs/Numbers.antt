@@ -17,7 +17,7 @@ use Rattle.model.proofs.Tests.{is-true, holds, same-test}
 use Rattle.theory.proofs.Nodes.{same-node, number-at, number-getD, nodes-distinct}
 use Rattle.policy.specs.View.{Tasks, cellCount, Cells}
 use Rattle.graph.specs.View.{nodeOf}
-use Rattle.graph.specs.declared.Node.{Node}
+use Rattle.node.specs.declared.Node.{Node}
 use Rattle.store.specs.Store.{rowAt, rowsIn, indexIn}
 use Rattle.discovery.specs.Discovery.{rowOf, nodeIn, viewOf, nodesIn, Holding, Holds}
 use Rattle.discovery.proofs.Nodes.{Row, row-view, held-row}

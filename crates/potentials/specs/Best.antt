@@ -14,7 +14,7 @@ use Rattle.policy.specs.declared.Rules.{Rules}
 use Rattle.graph.specs.Outcomes.{patternCount, notNoted, notesIn}
 use Rattle.graph.specs.Label.{Reaches}
 use Rattle.graph.specs.View.{Planned}
-use Rattle.graph.specs.declared.Node.{Node}
+use Rattle.node.specs.declared.Node.{Node}
 use Rattle.graph.specs.declared.Noted.{Noted}
 use Rattle.store.specs.Store.{rowsIn, indexIn}
 use Rattle.discovery.specs.Discovery.{rowOf, Holds}

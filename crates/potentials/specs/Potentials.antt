@@ -18,7 +18,7 @@ use Rattle.policy.specs.declared.Rules.{Rules}
 use Rattle.graph.specs.Outcomes.{notNoted, patternIn, notesIn}
 use Rattle.graph.specs.Label.{Readable}
 use Rattle.graph.specs.View.{Planned}
-use Rattle.graph.specs.declared.Node.{Node}
+use Rattle.node.specs.declared.Node.{Node}
 use Rattle.store.specs.Store.{rowAt, rowsIn, indexIn, Distinct, Indexed}
 use Rattle.discovery.specs.Discovery.{rowOf, nodeIn, Holds}
 use Rattle.potentials.specs.declared.Claim.{Claim}

@@ -1,5 +1,5 @@
 // The potentials of a certificate, tested against every edge of the graph.
-use graph::Node;
+use node::Node;
 use policy::Rules;
 ghost use mathlib.Core.Path.{_≡_};
 ghost use mathlib.Core.Option.{some};

@@ -1,7 +1,7 @@
 // The smallest fraction of a plan, by cycles that cost less than 0 until there is none.
 use circuit::Fraction;
 use policy::Rules;
-use potentials::Claim;
+use distances::Prices;
 ghost use mathlib.Core.Path.{_≡_};
 ghost use mathlib.Core.List.{List};
 ghost use Prim.Native.Nat.{ℕ, _+_, _≤_};
@@ -25,7 +25,7 @@ pub struct Solution {
 // The fraction that the cycle of so many steps attains.
 fn attained(rules: Rules, steps: usize, notes: &mut [u8], m: &[u8]) -> Fraction
     requires { ⌜ Ruled rules × Circled rules (now m) steps × (linksEnd ≤ length (now m)) × (noteRoom ≤ length (now notes)) ⌝ }
-    ensures { λ f. ⌜ ((P : Plan) (next : List ℕ) (claim : Claim) → Circling P rules next (now (m .entry)) claim steps → Lowers P claim (now (m .entry)) steps f) ⌝ }
+    ensures { λ f. ⌜ ((P : Plan) (next : List ℕ) (prices : Prices) → Circling P rules next (now (m .entry)) prices steps → Lowers P prices (now (m .entry)) steps f) ⌝ }
     ensures { λ _. ⌜ NotesFree (now (notes .entry)) (now (notes .exit)) ⌝ }
 {
     let sums = circuit::gains(rules, steps, notes, m);
@@ -48,13 +48,13 @@ pub fn least(
     let mut p = 1;
     let mut q = 0;
     let mut steps = 0;
-    let mut found = distances::settle(Claim { p, q, n }, next, rules, notes, m);
+    let mut found = distances::settle(Prices { p, q, n }, next, rules, notes, m);
     while found != 0 {
         let lower = attained(rules, found, notes, m);
         p = lower.p;
         q = lower.q;
         steps = found;
-        found = distances::settle(Claim { p, q, n }, next, rules, notes, m);
+        found = distances::settle(Prices { p, q, n }, next, rules, notes, m);
     }
     Solution { p, q, steps }
 }

@@ -1,4 +1,5 @@
 // The solver: the certificate of a plan, or the refusal of the first fault.
+use node::Node;
 use discovery::Discovered;
 use plan::Outcome;
 use plan::Plan;
@@ -26,9 +27,9 @@ pub enum Answer {
 }
 
 // The least work memory, and the most bytes of a certificate.
-pub const WORK_ROOM: usize = limits::WORK_ROOM;
+pub const WORK_ROOM: usize = Node::WORK_ROOM;
 
-pub const CERTIFICATE_ROOM: usize = limits::CERTIFICATE_ROOM;
+pub const CERTIFICATE_ROOM: usize = Node::CERTIFICATE_ROOM;
 
 // The certificate of a plan whose n nodes are in the store: so many bytes are written.
 fn solve_nodes(

@@ -1,4 +1,5 @@
 // Rows of bytes in lent memory, numbered in order and found by their contents.
+use node::Node;
 ghost use mathlib.Core.Path.{_≡_};
 ghost use Prim.Native.Nat.{_+_, _*_, _^_, _≤_, _<_};
 ghost use lib.ListN.{length};
@@ -7,9 +8,9 @@ ghost use Rattle.model.specs.Lists.{sameNumbers};
 ghost use Rattle.store.specs.Store.{rowBytes, maxRows, hashes, storeBytes, rowAt, rowsIn, indexIn, Distinct, hashOf, entryAt, Indexed, Cleared, Appended, Kept};
 
 // The bytes of a row, a node's cells, its pattern and its state; the most rows, and the number of hashes.
-pub const ROW_BYTES: usize = limits::MAX_TASKS * (limits::MAX_WINDOW - 1) + 2;
+pub const ROW_BYTES: usize = Node::CELLS + 2;
 
-pub const MAX_ROWS: usize = limits::MAX_NODES;
+pub const MAX_ROWS: usize = Node::MAX_NODES;
 
 const HASHES: usize = 1024;
 

@@ -18,6 +18,7 @@ module _ (Link : ℕ → ℕ → ℕ → ℤ → Type 0) where
     later = later-refl n s;
     most = omega arith;
     less = λ e. absurd (false≢true e);
+    still = λ e x h. (refl, refl);
     fresh = λ e x h a. a;
   }
 
@@ -28,6 +29,7 @@ module _ (Link : ℕ → ℕ → ℕ → ℤ → Type 0) where
     later = later-trans (p .later) (q .later);
     most = omega (arith, p .most, q .most);
     less = λ e. omega (arith, p .less refl, q .most);
+    still = λ e. absurd (true≢false e);
     fresh = λ e. absurd (true≢false e);
   }
   progress-then {a = false} p q = record {
@@ -35,6 +37,7 @@ module _ (Link : ℕ → ℕ → ℕ → ℤ → Type 0) where
     later = later-trans (p .later) (q .later);
     most = omega (arith, p .most, q .most);
     less = λ e. omega (arith, p .most, q .less e);
+    still = λ e x h. (q .still e x h .0 ∙ p .still refl x h .0, q .still e x h .1 ∙ p .still refl x h .1);
     fresh = λ e x h k. p .fresh refl x h (q .fresh e x h k);
   }
 
@@ -46,6 +49,7 @@ module _ (Link : ℕ → ℕ → ℕ → ℤ → Type 0) where
     later = relax-later Link x;
     most = omega (arith, relax-less Link r x light);
     less = λ e. relax-less Link r x light;
+    still = λ e. absurd (true≢false e);
     fresh = λ e. absurd (true≢false e);
   }
 
@@ -56,6 +60,7 @@ module _ (Link : ℕ → ℕ → ℕ → ℤ → Type 0) where
     later = later-tried n s u;
     most = omega arith;
     less = λ e. absurd (false≢true e);
+    still = λ e x h. (refl, refl);
     fresh = λ e x h k. by x k (ℕ-discrete x u);
   }
     where
@@ -71,5 +76,6 @@ module _ (Link : ℕ → ℕ → ℕ → ℤ → Type 0) where
         later = later-trans (p .later) (later-alike a);
         most = omega (arith, same, p .most);
         less = λ e. omega (arith, same, p .less e);
+        still = λ e x h. (sym (a .known x h) ∙ p .still e x h .0, sym (a .dist x h) ∙ p .still e x h .1);
         fresh = λ e x h k. p .fresh e x h (a .waiting x h ∙ k);
       }

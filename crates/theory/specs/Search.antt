@@ -111,10 +111,11 @@ module _ (Link : ℕ → ℕ → ℕ → ℤ → Type 0) where
     pub high : High n c (s .known) (s .dist)
     pub done : (u : ℕ) → u < n → s .known u ≡ true → s .waiting u ≡ false → Done n s u
 
-  -- from s to s′ less remains where something has moved, and else none waits that did not wait before
+  -- from s to s′ less remains where something has moved, and else no distance has, and none waits that did not wait before
   pub record Progress (n c : ℕ) (s s′ : State) (moved : Bool) : Type 0 where
     pub search : Search n c s′
     pub later : Later n s s′
     pub most : remaining n c s′ ≤ remaining n c s
     pub less : moved ≡ true → remaining n c s′ < remaining n c s
+    pub still : moved ≡ false → (x : ℕ) → x < n → (s′ .known x ≡ s .known x) × (s′ .dist x ≡ s .dist x)
     pub fresh : moved ≡ false → (x : ℕ) → x < n → s′ .waiting x ≡ true → s .waiting x ≡ true

@@ -1,4 +1,5 @@
 // The trace call: what a policy does, slot by slot.
+use node::Node;
 use plan::Outcome;
 use plan::Plan;
 use policy::Rules;
@@ -17,9 +18,9 @@ ghost use Rattle.policy.specs.View.{tasksIn, Ruled};
 ghost use Rattle.tracer.specs.Promise.{Told, Traces};
 
 // The most that a trace takes, and the most labels.
-pub const TRACE_ROOM: usize = limits::TRACE_ROOM;
+pub const TRACE_ROOM: usize = Node::TRACE_ROOM;
 
-pub const MAX_LABELS: usize = limits::MAX_LABELS;
+pub const MAX_LABELS: usize = Node::MAX_LABELS;
 
 // A trace that is written has so many bytes.
 pub enum Answer {

@@ -28,7 +28,7 @@ use Rattle.distances.specs.Distances.{SearchIn}
 use Rattle.circuit.specs.Circuit.{Turns, Turning}
 use Rattle.circuit.proofs.Steps.{steps-length}
 use Rattle.solution.specs.declared.Solution.{Solution}
-use Rattle.solution.specs.Solution.{claimOf, Tight, Solving}
+use Rattle.solution.specs.Solution.{pricesOf, Tight, Solving}
 use Rattle.writer.specs.Writer.{distancesIn, WritesCycle, Written}
 use Rattle.writer.proofs.Bytes.{potentialsEnd, cycleEnd, fronted, bare-length, bare-written, full-length, full-written}
 
@@ -74,7 +74,7 @@ module _ {P : Plan} {r : Rules} {next m : List ℕ} {n : ℕ} {s : Solution} (h 
   smallest : AllSmallest P (s .p) (s .q) (distancesIn m n)
   smallest =
       subst (λ (k : ℕ). AllSmallest P (s .p) (s .q) (distancesIn m k)) nodes-count
-      (settled-smallest P sd fits (subst (λ (k : ℕ). SearchIn P (claimOf s k) m) (sym nodes-count) (h .search))
+      (settled-smallest P sd fits (subst (λ (k : ℕ). SearchIn P (pricesOf s k) m) (sym nodes-count) (h .search))
       (subst (λ (k : ℕ). Quiet k (stateIn m)) (sym nodes-count) (h .quiet)))
 
   -- after the head and the potentials, the end for q = 0

@@ -5,6 +5,7 @@ use lib.ListN.{length}
 use borrow.Author.Needs.{needs}
 use Rattle.model.specs.Graph.{nodes}
 use Rattle.plan.specs.View.{planOf}
+use Rattle.graph.proofs.Notes.{notes-long}
 use Rattle.graph.proofs.View.{planned-of}
 use Rattle.discovery.specs.Discovery.{sizeOf}
 use Rattle.checker.proofs.Answers.{large, small}
@@ -26,7 +27,7 @@ discover-requires c κs =
     let start = rules .before .before .before in
     let p = start .args .plan in (
       (rules .rules-of .ensures .ruled, record { plan = planOf p; planned = planned-of p (rules .rules-of .result) (start .pre .1) (rules .rules-of .ensures) }),
-      (omega (arith, start .pre .2), omega (arith, c .before .before .before .note-space .ensures)),
+      (omega (arith, start .pre .2), omega (arith, notes-long (c .before .before .before .note-space .ensures))),
     )
 
 enum-told : tie.Need-enum-told
@@ -47,7 +48,7 @@ check-certificate-requires c κs =
     let of = planned-of p (rules .rules-of .result) (start .pre .1) (rules .rules-of .ensures) in (
       rules .rules-of .ensures .ruled,
       record { plan = planOf p; planned = of; holds = found .discover .ensures .0 .held _ (c .before .before .before .before .n .given .1) (planOf p) of },
-      omega (arith, found .before .before .before .before .note-space .ensures, found .discover .kept .1 .1 .0),
+      omega (arith, notes-long (found .before .before .before .before .note-space .ensures), found .discover .kept .1 .1 .0),
     )
 
 same-length : tie.Need-same-length

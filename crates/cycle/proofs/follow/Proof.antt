@@ -1,5 +1,6 @@
 -- `cycle::follow` meets its contract: one step after another. Assumes nothing.
-use mathlib.Core.Path.{_≡_, refl, sym, ap, _∙_}
+use mathlib.Core.Path.{_≡_, refl, sym, ap, subst, _∙_}
+use mathlib.Core.Bool.{true≢false}
 use Prim.Native.Nat.{_-_, _*_, _≤_, _<_}
 use native.Mathlib.Omega.{arith}
 use lib.ListN.{length, drop}
@@ -7,28 +8,29 @@ use borrow.Author.Needs.{needs}
 use borrow.Author.Tests.{not-true, not-false}
 use Rattle.model.specs.Check.{follow}
 use Rattle.model.specs.Limits.{maxTasks, maxValue, maxStates}
-use Rattle.model.specs.Plan.{Plan}
 use Rattle.certificate.specs.View.{stepSize, stepIn, stepAt, certificateOf}
 use Rattle.certificate.proofs.Runs.{items-length}
 use Rattle.certificate.proofs.Placed.{placed}
 use Rattle.policy.specs.View.{cellCount, Cells, tasksIn}
-use Rattle.graph.specs.View.{Planned}
+use Rattle.graph.specs.View.{planBy}
+use Rattle.cycle.specs.Cycle.{reachedIn}
+use Rattle.cycle.specs.declared.Walked.{Walked}
 use Rattle.cycle.proofs.Steps.{here, step-lost, step-taken, steps-done}
 use Rattle.cycle.proofs.follow.Statement.{statement}
 use Rattle.cycle.proofs.follow.Tie as tie
 
 abbrev Inv-loop : tie.InvT-loop
-Inv-loop next rules s parts at₀ kept₀ ideal₀ j₀ at kept ideal j =
+Inv-loop next rules s parts from at₀ kept₀ ideal₀ j₀ at kept ideal j =
     (j ≤ parts .steps) × Cells (tasksIn rules) cellCount (at .cells) × (at .state < maxStates)
     × (kept ≤ j * maxValue) × (ideal ≤ j * (maxTasks * maxValue))
-    × ((P : Plan) → Planned P rules next →
-    follow P (drop j (certificateOf s parts .steps)) (here (tasksIn rules) at kept ideal) ≡ follow P (certificateOf s parts .steps) (here (tasksIn rules) at₀ kept₀ ideal₀))
+    × (follow (planBy rules next maxStates) (drop j (certificateOf s parts .steps)) (here (tasksIn rules) at kept ideal)
+    ≡ follow (planBy rules next maxStates) (certificateOf s parts .steps) (here (tasksIn rules) at₀ kept₀ ideal₀))
 
 abbrev μ-loop : tie.MeasureT-loop
-μ-loop next rules s parts at₀ kept₀ ideal₀ j₀ at kept ideal j = parts .steps - j
+μ-loop next rules s parts from at₀ kept₀ ideal₀ j₀ at kept ideal j = parts .steps - j
 
 loop-holds : tie.Need-loop-holds Inv-loop μ-loop
-loop-holds c = let start = c .before in (omega arith, start .pre .1 .0, start .pre .1 .1, omega arith, omega arith, λ P p. refl)
+loop-holds c = let start = c .before in (omega arith, start .pre .1 .0, start .pre .1 .1, omega arith, omega arith, refl)
 
 step-label-requires : tie.Need-step-label-requires Inv-loop μ-loop
 step-label-requires c κs = (c .before .before .before .before .pre .0 .2, omega (arith, c .if1 .taken))
@@ -50,9 +52,12 @@ edge-by-requires c κs =
       ap length (c .step-masks .ensures) ∙ placed bs (certificateOf bs parts) (start .pre .0 .2) .full (l .j) (omega (arith, size, c .before .before .if1 .taken)),
     )
 
+lost-requires : tie.Need-lost-requires Inv-loop μ-loop
+lost-requires c κs = search needs
+
 returns : tie.Need-returns Inv-loop μ-loop
 returns c =
-    let call = c .before .before in
+    let call = c .before .before .before in
     let l = call .before .before .before .before .before .loop in
     let start = call .before .before .before .before .before .before .before in
     let a = start .args in
@@ -61,13 +66,16 @@ returns c =
     let size = items-length (stepIn bs) (a .parts .from) stepSize (a .parts .steps) in
     let named : record { label = call .before .before .step-label .result; masks = call .before .step-masks .result } ≡ stepAt ss (l .j) =
     λ i. record { label = call .before .before .step-label .ensures i; masks = call .before .step-masks .ensures i } in
+    let gone = c .lost .ensures in
     record {
-      reached = λ P p.
-          sym (step-lost P (tasksIn (a .rules)) ss (l .j) (omega (arith, size, call .before .before .before .if1 .taken)) (l .at) (l .kept) (l .ideal)
+      reached =
+          ap (reachedIn (tasksIn (a .rules))) gone
+          ∙ sym (step-lost (planBy (a .rules) (a .next .now) maxStates) (tasksIn (a .rules)) ss (l .j) (omega (arith, size, call .before .before .before .if1 .taken)) (l .at) (l .kept) (l .ideal)
           (record { label = call .before .before .step-label .result; masks = call .before .step-masks .result }) named (call .edge-by .result)
-          (call .edge-by .ensures .edge P p) (not-true _ (c .if2 .taken)))
-          ∙ l .inv .5 P p;
-      cells = l .inv .1;
+          (call .edge-by .ensures .edge) (not-true _ (c .before .if2 .taken)))
+          ∙ l .inv .5;
+      absent = λ f. gone;
+      cells = subst (λ (w : Walked). Cells (tasksIn (a .rules)) cellCount (w .at .cells)) (sym gone) (start .pre .1 .0);
     }
 
 cast-kept : tie.Need-cast-kept Inv-loop μ-loop
@@ -129,11 +137,10 @@ loop-again c =
       edge .state,
       omega (arith, edge .kept, l .inv .3),
       omega (arith, edge .ideal, l .inv .4),
-      λ P p.
-          sym (step-taken P (tasksIn (a .rules)) ss (l .j) (omega (arith, size, more)) (l .at) (l .kept) (l .ideal)
+      sym (step-taken (planBy (a .rules) (a .next .now) maxStates) (tasksIn (a .rules)) ss (l .j) (omega (arith, size, more)) (l .at) (l .kept) (l .ideal)
           (record { label = call .before .before .step-label .result; masks = call .before .step-masks .result }) named (call .edge-by .result)
-          (edge .edge P p) (not-false _ (c .before .before .before .if2 .left)))
-          ∙ l .inv .5 P p,
+          (edge .edge) (not-false _ (c .before .before .before .if2 .left)))
+          ∙ l .inv .5,
     )
 
 returns-2 : tie.Need-returns-2 Inv-loop μ-loop
@@ -144,7 +151,9 @@ returns-2 c =
     let ss = certificateOf bs (a .parts) .steps in
     let size = items-length (stepIn bs) (a .parts .from) stepSize (a .parts .steps) in
     record {
-      reached = λ P p. sym (steps-done P ss (l .j) (here (tasksIn (a .rules)) (l .at) (l .kept) (l .ideal)) (omega (arith, size, c .if1 .left))) ∙ l .inv .5 P p;
+      reached =
+          sym (steps-done (planBy (a .rules) (a .next .now) maxStates) ss (l .j) (here (tasksIn (a .rules)) (l .at) (l .kept) (l .ideal)) (omega (arith, size, c .if1 .left))) ∙ l .inv .5;
+      absent = λ f. absurd (true≢false f);
       cells = l .inv .1;
     }
 
@@ -158,6 +167,7 @@ follow-spec =
     step-label-requires
     step-masks-requires
     edge-by-requires
+    lost-requires
     returns
     cast-kept
     add-kept

@@ -9,9 +9,10 @@ use Rattle.model.specs.Graph.{nodes}
 use Rattle.words.proofs.Memory.{part-length}
 use Rattle.certificate.specs.View.{certificateOf}
 use Rattle.policy.specs.View.{cellCount, Cells, tasksIn}
-use Rattle.policy.proofs.Plans.{states-fit}
 use Rattle.graph.specs.View.{nodeOf}
-use Rattle.graph.specs.declared.Node.{Node}
+use Rattle.graph.proofs.Edges.{planned-table}
+use Rattle.cycle.proofs.Steps.{planned-follow}
+use Rattle.node.specs.declared.Node.{Node}
 use Rattle.store.specs.Store.{rowBytes}
 use Rattle.discovery.specs.Discovery.{nodeIn}
 use Rattle.discovery.proofs.Rows.{row-length}
@@ -49,7 +50,7 @@ follow-requires c κs =
     let held = start .pre .1 in
     let named = c .node-of .ensures ∙ ap nodeIn (c .before .row .ensures) in
     let below = c .before .before .if2 .left in (
-      (start .pre .0, states-fit (held .plan) (held .planned .sound) (a .next .now) (held .planned .arcs), start .pre .2),
+      (start .pre .0, planned-table (held .planned) (start .pre .0), start .pre .2),
       (
         subst (λ (u : Node). Cells (tasksIn (a .rules)) cellCount (u .cells)) (sym named) (held .holds .rows .cells (a .parts .node) below),
         subst (λ (u : Node). u .state < _) (sym named)
@@ -69,7 +70,7 @@ returns-3 c =
     let named = call .before .node-of .ensures ∙ ap nodeIn (call .before .before .row .ensures) in
     let recurs = call .before .before .before .before .before .if1 .left in
     λ P p h. cycle-lost P (certificateOf bs (a .parts)) recurs (omega (arith, below, held-count ts (a .m .now) (a .n) (nodes P) (h .nodes))) ts from
-    (ap (nodeOf ts) named ∙ held-node ts (a .m .now) (a .n) (nodes P) (h .nodes) (a .parts .node) below) (call .follow .result) (call .follow .ensures .reached P p) (not-true _ (c .if3 .taken))
+    (ap (nodeOf ts) named ∙ held-node ts (a .m .now) (a .n) (nodes P) (h .nodes) (a .parts .node) below) (call .follow .result) (call .follow .ensures .reached ∙ sym (planned-follow p _ _)) (not-true _ (c .if3 .taken))
 
 row-of-requires : tie.Need-row-of-requires
 row-of-requires c κs = search needs
@@ -98,7 +99,7 @@ returns-4 c =
     same-end ts (a .m .now) (a .n) (start .pre .1 .holds .rows) (a .parts .node) below from (walked .at) named (call .follow .ensures .cells)
     (end .result) (end .ensures) (tested .result) (tested .ensures) in
     λ P p h. cycle-open P (certificateOf bs (a .parts)) recurs (omega (arith, below, held-count ts (a .m .now) (a .n) (nodes P) (h .nodes))) ts from
-    (ap (nodeOf ts) named ∙ held-node ts (a .m .now) (a .n) (nodes P) (h .nodes) (a .parts .node) below) (call .follow .result) (call .follow .ensures .reached P p) (not-false _ (c .before .before .before .before .if3 .left)) (same ∙ not-true _ (c .if4 .taken))
+    (ap (nodeOf ts) named ∙ held-node ts (a .m .now) (a .n) (nodes P) (h .nodes) (a .parts .node) below) (call .follow .result) (call .follow .ensures .reached ∙ sym (planned-follow p _ _)) (not-false _ (c .before .before .before .before .if3 .left)) (same ∙ not-true _ (c .if4 .taken))
 
 is-tight-requires : tie.Need-is-tight-requires
 is-tight-requires c κs = search needs
@@ -121,7 +122,7 @@ returns-5 c =
     same-end ts (a .m .now) (a .n) (start .pre .1 .holds .rows) (a .parts .node) below from (walked .at) named (call .follow .ensures .cells)
     (end .result) (end .ensures) (tested .result) (tested .ensures) in
     λ P p h. c .is-tight .ensures ∙ cycle-closed P (certificateOf bs (a .parts)) recurs (omega (arith, below, held-count ts (a .m .now) (a .n) (nodes P) (h .nodes))) ts from
-    (ap (nodeOf ts) named ∙ held-node ts (a .m .now) (a .n) (nodes P) (h .nodes) (a .parts .node) below) (call .follow .result) (call .follow .ensures .reached P p) (not-false _ (c .before .before .before .before .before .if3 .left)) (same ∙ not-false _ (c .before .if4 .left))
+    (ap (nodeOf ts) named ∙ held-node ts (a .m .now) (a .n) (nodes P) (h .nodes) (a .parts .node) below) (call .follow .result) (call .follow .ensures .reached ∙ sym (planned-follow p _ _)) (not-false _ (c .before .before .before .before .before .if3 .left)) (same ∙ not-false _ (c .before .if4 .left))
 
 pub holds-spec : {M : Type 1} → statement M
 holds-spec =

@@ -1,8 +1,11 @@
 -- `discovery::discover` meets its contract. Assumes nothing.
-use mathlib.Core.Path.{_∙_}
+use mathlib.Core.Path.{ap, _∙_}
 use mathlib.Core.List.{[]}
 use borrow.Author.Needs.{needs}
 use Rattle.words.proofs.Free.{only-trans}
+use lib.ListN.{length}
+use Rattle.node.specs.declared.Node.{Node}
+use Rattle.graph.proofs.View.{start-cells}
 use Rattle.discovery.proofs.Answer.{none-stored, begun, discovers-many, discovers-nodes}
 use Rattle.discovery.proofs.discover.Statement.{statement}
 use Rattle.discovery.proofs.discover.Tie as tie
@@ -16,7 +19,7 @@ start-requires c κs = search needs
 add-node-requires : tie.Need-add-node-requires
 add-node-requires c κs =
     let cleared = c .before .before .before .before in
-    (c .before .start .ensures .cells [] .size, none-stored (cleared .clear-index .last .0) (cleared .clear-index .ensures .index))
+    (ap (λ (u : Node). length (u .cells)) (c .before .start .ensures) ∙ start-cells [] .size, none-stored (cleared .clear-index .last .0) (cleared .clear-index .ensures .index))
 
 explore-all-requires : tie.Need-explore-all-requires
 explore-all-requires c κs =

@@ -13,13 +13,13 @@ use Rattle.distances.proofs.pass.Statement.{statement}
 use Rattle.distances.proofs.pass.Tie as tie
 
 abbrev Inv-loop : tie.InvT-loop
-Inv-loop claim next rules notes₀ m₀ n moved₀ u₀ notes m moved u =
+Inv-loop prices next rules notes₀ m₀ n moved₀ u₀ notes m moved u =
     (u ≤ n) × (length notes ≡ length notes₀) × (length m ≡ length m₀)
-    × ((P : Plan) → Sought P rules next m₀ claim → TriedBelow P claim u m₀ m moved)
+    × ((P : Plan) → Sought P rules next m₀ prices → TriedBelow P prices u m₀ m moved)
     × NotesFree notes₀ notes
 
 abbrev μ-loop : tie.MeasureT-loop
-μ-loop claim next rules notes₀ m₀ n moved₀ u₀ notes m moved u = n - u
+μ-loop prices next rules notes₀ m₀ n moved₀ u₀ notes m moved u = n - u
 
 loop-holds : tie.Need-loop-holds Inv-loop μ-loop
 loop-holds c = (omega arith, refl, refl, λ P s. tried-none (s .search), only-refl)

@@ -28,7 +28,7 @@ tested : (c : tie.After-is-shorter) → c .is-shorter .result ≡ shorter (linkI
 tested c = c .is-shorter .ensures ∙ ap₂ shorter (c .before .link-to .ensures) (toZ-ofZ {w = w64} (c .before .before .before .before .fits .z))
 
 returns : tie.Need-returns
-returns c P claim o = relax-keeps o (sym (tested (c .before)) ∙ not-true _ (c .if1 .taken))
+returns c P prices o = relax-keeps o (sym (tested (c .before)) ∙ not-true _ (c .if1 .taken))
 
 way-up-requires : tie.Need-way-up-requires
 way-up-requires c κs = offer-climbs (c .before .before .before .before .before .before .pre .offer)
@@ -46,7 +46,7 @@ same-length-2 : tie.Need-same-length-2
 same-length-2 c = search needs
 
 returns-2 : tie.Need-returns-2
-returns-2 c P claim o =
+returns-2 c P prices o =
     let a = c .before .before .before .before .before .before .before .before .before .before .before .before .before in
     let m = now (a .args .m) in
     let m′ = c .before .before .put-link .last .0 in
@@ -73,7 +73,7 @@ same-length-3 : tie.Need-same-length-3
 same-length-3 c = search needs
 
 returns-3 : tie.Need-returns-3
-returns-3 c P claim o =
+returns-3 c P prices o =
     relax-closes o (sym (tested (c .before .before .before .before .before .before .before .before .before .before)) ∙ not-false _ (c .before .before .before .before .before .before .before .before .before .if1 .left)) (c .before .before .before .before .before .j .given .0 .0) (way (c .before .before .before)) _ (c .before .before .put-cycle .ensures)
 
 pub relax-spec : {M : Type 1} → statement M

@@ -19,12 +19,12 @@ next-state-requires c κs =
     let s = c .before .before in
     let a = s .args in
     let g = s .pre .1 in
-    numbered-low (g .plan) (tasksIn (a .rules)) (a .m .now) (a .claim .n) (g .sought .priced .holds) (g .sought .priced .planned .sound) (a .u) (a .node) (s .pre .2)
+    numbered-low (g .plan) (tasksIn (a .rules)) (a .m .now) (a .prices .n) (g .sought .priced .holds) (g .sought .priced .planned .sound) (a .u) (a .node) (s .pre .2)
 
 -- where the label leads
 leads : (c : tie.After-next-state) (P : Plan) →
     let a = c .before .before .before .args in
-    Sought P (a .rules) (a .next .now) (a .m .now) (a .claim) → Leads P (a .rules) (a .next .now) (a .m .now) (a .claim .n) (a .u) (a .node) (a .label) (c .next-state .result)
+    Sought P (a .rules) (a .next .now) (a .m .now) (a .prices) → Leads P (a .rules) (a .next .now) (a .m .now) (a .prices .n) (a .u) (a .node) (a .label) (c .next-state .result)
 leads c P t = leads-of t (c .before .before .before .pre .2) (c .next-state .ensures)
 
 returns : tie.Need-returns
@@ -35,7 +35,7 @@ reach-requires c κs =
     let s = c .before .before .before .before .before in
     let a = s .args in
     let g = s .pre .1 in
-    (s .pre .0, numbered-cells (g .plan) (tasksIn (a .rules)) (a .m .now) (a .claim .n) (g .sought .priced .holds) (a .u) (a .node) (s .pre .2), s .pre .4)
+    (s .pre .0, numbered-cells (g .plan) (tasksIn (a .rules)) (a .m .now) (a .prices .n) (g .sought .priced .holds) (a .u) (a .node) (s .pre .2), s .pre .4)
 
 sub-t17 : tie.Need-sub-t17
 sub-t17 c = search needs
@@ -46,8 +46,8 @@ cast-t18 c = search needs
 -- what is noted
 expanded : (c : tie.After-reach) (P : Plan) →
     let a = c .before .before .before .before .before .before .args in
-    Sought P (a .rules) (a .next .now) (a .m .now) (a .claim) →
-    Expanded P (a .rules) (a .next .now) (a .m .now) (a .claim .n) (a .u) (a .node) (a .label) (c .before .before .before .next-state .result) (a .notes .now) (c .reach .last .1 .1 .1 .0) (c .reach .result)
+    Sought P (a .rules) (a .next .now) (a .m .now) (a .prices) →
+    Expanded P (a .rules) (a .next .now) (a .m .now) (a .prices .n) (a .u) (a .node) (a .label) (c .before .before .before .next-state .result) (a .notes .now) (c .reach .last .1 .1 .1 .0) (c .reach .result)
 expanded c P t =
     let s = c .before .before .before .before .before .before in
     let low : s .args .node .taken < maskCount = omega (arith, s .good) in

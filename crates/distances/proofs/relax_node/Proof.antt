@@ -24,13 +24,13 @@ use Rattle.distances.proofs.relax_node.Statement.{statement}
 use Rattle.distances.proofs.relax_node.Tie as tie
 
 abbrev Inv-loop : tie.InvT-loop
-Inv-loop claim next rules u notes₀ m₀ moved₀ node labels label₀ notes m moved label =
+Inv-loop prices next rules u notes₀ m₀ moved₀ node labels label₀ notes m moved label =
     (label ≤ labels) × (length notes ≡ length notes₀) × (length m ≡ length m₀)
-    × ((P : Plan) → Sought P rules next m₀ claim → DoneBelow P claim u label m₀ m moved)
+    × ((P : Plan) → Sought P rules next m₀ prices → DoneBelow P prices u label m₀ m moved)
     × NotesFree notes₀ notes
 
 abbrev μ-loop : tie.MeasureT-loop
-μ-loop claim next rules u notes₀ m₀ moved₀ node labels label₀ notes m moved label = labels - label
+μ-loop prices next rules u notes₀ m₀ moved₀ node labels label₀ notes m moved label = labels - label
 
 link-to-requires : tie.Need-link-to-requires Inv-loop μ-loop
 link-to-requires c κs =

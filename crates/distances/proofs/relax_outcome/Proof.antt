@@ -49,12 +49,12 @@ distance : (c : tie.After-times) →
     let s = c .before .before .before .before .before in
     let a = s .args in
     toZ w64 (ofZ w64 (a .high)) -ℤ toZ w64 (ofZ w64 (c .times .result))
-    ≡ a .high -ℤ pos (a .claim .p * gainIn (a .notes .now) (a .out .count) (patternIn (a .notes .now) (a .k)))
+    ≡ a .high -ℤ pos (a .prices .p * gainIn (a .notes .now) (a .out .count) (patternIn (a .notes .now) (a .k)))
 distance c =
     let s = c .before .before .before .before .before in
     let a = s .args in
     ap₂ (λ y z. y -ℤ z) (toZ-ofZ {w = w64} (s .fits .high))
-    (toZ-ofZ {w = w64} (record { sfits = c .times .ok }) ∙ c .times .ensures ∙ ap (λ (x : ℕ). pos (a .claim .p * (x - 1))) (score (c .before)))
+    (toZ-ofZ {w = w64} (record { sfits = c .times .ok }) ∙ c .times .ensures ∙ ap (λ (x : ℕ). pos (a .prices .p * (x - 1))) (score (c .before)))
 
 sub-z : tie.Need-sub-z
 sub-z c =
@@ -63,11 +63,11 @@ sub-z c =
     let o = s .pre .0 .offers in
     let g = gainIn (a .notes .now) (a .out .count) (patternIn (a .notes .now) (a .k)) in
     subst (SFits w64) (sym (distance c))
-    (bound-fits (a .high) (a .claim .p * g)
-    (charge-small (a .claim .p) g (omega (arith, o .fitsP)) (omega (arith, score (c .before), c .before .best-score .ok)))
+    (bound-fits (a .high) (a .prices .p * g)
+    (charge-small (a .prices .p) g (omega (arith, o .fitsP)) (omega (arith, score (c .before), c .before .best-score .ok)))
     (subst (λ z. natAbs z ≤ maxHigh) (sym (s .pre .2))
-    (high-small (stateIn (a .m .now) .dist (a .u)) (a .claim .q * a .out .kept) (charge-small (a .claim .q) (a .out .kept) (o .fitsQ) (omega (arith, s .good)))
-    (distance-small (s .pre .0 .plan) (a .claim) (a .m .now) (o .search) (o .within) (o .few) (a .u) (o .from) (o .known)))))
+    (high-small (stateIn (a .m .now) .dist (a .u)) (a .prices .q * a .out .kept) (charge-small (a .prices .q) (a .out .kept) (o .fitsQ) (omega (arith, s .good)))
+    (distance-small (s .pre .0 .plan) (a .prices) (a .m .now) (o .search) (o .within) (o .few) (a .u) (o .from) (o .known)))))
 
 row-of-requires : tie.Need-row-of-requires
 row-of-requires c κs = search needs
@@ -82,26 +82,26 @@ find-requires c κs =
 -- what is found is the number of the pattern's node
 number : (c : tie.After-find) →
     let a = c .before .before .before .before .before .before .before .before .before .before .args in
-    c .find .result ≡ targetOf (a .claim) (a .m .now) (a .notes .now) (a .out) (a .k)
+    c .find .result ≡ targetOf (a .prices) (a .m .now) (a .notes .now) (a .out) (a .k)
 number c =
     let a = c .before .before .before .before .before .before .before .before .before .before .args in
-    c .find .ensures ∙ ap (indexIn (rowsIn (a .m .now) (a .claim .n)))
+    c .find .ensures ∙ ap (indexIn (rowsIn (a .m .now) (a .prices .n)))
     (c .before .before .before .row-of .ensures ∙ ap (λ (p : ℕ). rowOf (withPattern (a .out .cells) (a .out .state) p)) (c .before .before .before .before .before .before .before .noted-pattern .ensures .0))
 
 -- and what is computed its distance
 at : (c : tie.After-times) →
     let a = c .before .before .before .before .before .args in
-    toZ w64 (ofZ w64 (toZ w64 (ofZ w64 (a .high)) -ℤ toZ w64 (ofZ w64 (c .times .result)))) ≡ distanceBy (a .claim) (a .m .now) (a .notes .now) (a .u) (a .out) (a .k)
+    toZ w64 (ofZ w64 (toZ w64 (ofZ w64 (a .high)) -ℤ toZ w64 (ofZ w64 (c .times .result)))) ≡ distanceBy (a .prices) (a .m .now) (a .notes .now) (a .u) (a .out) (a .k)
 at c =
     let s = c .before .before .before .before .before in
     let a = s .args in
-    let charge = a .claim .p * gainIn (a .notes .now) (a .out .count) (patternIn (a .notes .now) (a .k)) in
-    toZ-ofZ {w = w64} (sub-z c) ∙ distance c ∙ ap (λ z. z -ℤ pos charge) (s .pre .2) ∙ weight-order (stateIn (a .m .now) .dist (a .u)) (a .claim .q * a .out .kept) charge
+    let charge = a .prices .p * gainIn (a .notes .now) (a .out .count) (patternIn (a .notes .now) (a .k)) in
+    toZ-ofZ {w = w64} (sub-z c) ∙ distance c ∙ ap (λ z. z -ℤ pos charge) (s .pre .2) ∙ weight-order (stateIn (a .m .now) .dist (a .u)) (a .prices .q * a .out .kept) charge
 
 relax-requires : tie.Need-relax-requires
 relax-requires c κs =
     let s = c .before .before .before .before .before .before .before .before .before .before .before in
-    record { plan = s .pre .0 .plan; claim = s .args .claim; offer = offer-of (s .pre .0 .offers) (s .args .k) (s .pre .1) (number (c .before)) (at (c .before .before .before .before .before .before)) }
+    record { plan = s .pre .0 .plan; prices = s .args .prices; offer = offer-of (s .pre .0 .offers) (s .args .k) (s .pre .1) (number (c .before)) (at (c .before .before .before .before .before .before)) }
 
 same-length : tie.Need-same-length
 same-length c = search needs
@@ -112,8 +112,8 @@ returns c P o =
     let a = s .args in
     let v = number (c .before .before .before .before) in
     let z = at (c .before .before .before .before .before .before .before .before .before) in
-    subst₂ (λ (x : ℕ) y. Relaxes P (a .claim) (a .u) x y (a .m .now) (c .before .before .relax .last .0) (c .before .before .relax .result)) v z
-    (c .before .before .relax .ensures P (a .claim) (offer-of o (a .k) (s .pre .1) v z))
+    subst₂ (λ (x : ℕ) y. Relaxes P (a .prices) (a .u) x y (a .m .now) (c .before .before .relax .last .0) (c .before .before .relax .result)) v z
+    (c .before .before .relax .ensures P (a .prices) (offer-of o (a .k) (s .pre .1) v z))
 
 pub relax-outcome-spec : {M : Type 1} → statement M
 relax-outcome-spec =

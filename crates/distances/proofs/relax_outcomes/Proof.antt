@@ -19,11 +19,11 @@ use Rattle.distances.proofs.relax_outcomes.Statement.{statement}
 use Rattle.distances.proofs.relax_outcomes.Tie as tie
 
 abbrev Inv-loop : tie.InvT-loop
-Inv-loop claim u out notes m₀ high count moved₀ k₀ m moved k =
-    (k ≤ count) × (length m ≡ length m₀) × ((P : Plan) → Offers P claim m₀ notes u out → Trying P claim u out notes m₀ m moved k)
+Inv-loop prices u out notes m₀ high count moved₀ k₀ m moved k =
+    (k ≤ count) × (length m ≡ length m₀) × ((P : Plan) → Offers P prices m₀ notes u out → Trying P prices u out notes m₀ m moved k)
 
 abbrev μ-loop : tie.MeasureT-loop
-μ-loop claim u out notes m₀ high count moved₀ k₀ m moved k = count - k
+μ-loop prices u out notes m₀ high count moved₀ k₀ m moved k = count - k
 
 link-to-requires : tie.Need-link-to-requires Inv-loop μ-loop
 link-to-requires c κs = let o = c .before .before .before .pre .offers in (omega (arith, o .from, o .few), o .room)
@@ -34,7 +34,7 @@ times-requires c κs = c .before .before .before .before .pre .offers .fitsQ
 -- the distance with the policy's weight, before it is stored
 sum : (c : tie.After-struct-told Inv-loop μ-loop) →
     let a = c .before .before .before .before .before .before .before .args in
-    toZ w64 (ofZ w64 (c .before .before .before .link-to .result .distance)) +ℤ toZ w64 (ofZ w64 (c .before .before .times .result)) ≡ highOf (a .claim) (a .m .now) (a .u) (a .out)
+    toZ w64 (ofZ w64 (c .before .before .before .link-to .result .distance)) +ℤ toZ w64 (ofZ w64 (c .before .before .times .result)) ≡ highOf (a .prices) (a .m .now) (a .u) (a .out)
 sum c =
     ap₂ (λ y z. y +ℤ z)
     (toZ-ofZ {w = w64} (record { sfits = c .struct-told .given .0 .1 }) ∙ ap (λ l. l .distance) (c .before .before .before .link-to .ensures))
@@ -46,8 +46,8 @@ add-high c =
     let a = s .args in
     let o = s .pre .offers in
     subst (SFits w64) (sym (sum c))
-    (high-fits (stateIn (a .m .now) .dist (a .u)) (a .claim .q * a .out .kept) (charge-small (a .claim .q) (a .out .kept) (o .fitsQ) (omega (arith, s .good)))
-    (distance-small (s .pre .plan) (a .claim) (a .m .now) (o .search) (o .within) (o .few) (a .u) (o .from) (o .known)))
+    (high-fits (stateIn (a .m .now) .dist (a .u)) (a .prices .q * a .out .kept) (charge-small (a .prices .q) (a .out .kept) (o .fitsQ) (omega (arith, s .good)))
+    (distance-small (s .pre .plan) (a .prices) (a .m .now) (o .search) (o .within) (o .few) (a .u) (o .from) (o .known)))
 
 loop-holds : tie.Need-loop-holds Inv-loop μ-loop
 loop-holds c = (omega arith, refl, λ P o. trying-start o)
@@ -59,7 +59,7 @@ relax-outcome-requires c κs =
     let t = l .loop .inv .2 (s .pre .plan) (s .pre .offers) in (
       record { plan = s .pre .plan; offers = t .offers },
       c .before .loop-test .taken,
-      toZ-ofZ {w = w64} (add-high (c .before .before .before)) ∙ sum (c .before .before .before) ∙ ap (λ z. z +ℤ pos (s .args .claim .q * s .args .out .kept)) (sym (t .source)),
+      toZ-ofZ {w = w64} (add-high (c .before .before .before)) ∙ sum (c .before .before .before) ∙ ap (λ z. z +ℤ pos (s .args .prices .q * s .args .out .kept)) (sym (t .source)),
     )
 
 same-length : tie.Need-same-length Inv-loop μ-loop

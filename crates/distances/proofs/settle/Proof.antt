@@ -11,13 +11,13 @@ use Rattle.distances.proofs.settle.Statement.{statement}
 use Rattle.distances.proofs.settle.Tie as tie
 
 abbrev Inv-loop : tie.InvT-loop
-Inv-loop claim next rules notes₀ m₀ moved₀ steps₀ notes m moved steps =
+Inv-loop prices next rules notes₀ m₀ moved₀ steps₀ notes m moved steps =
     (length notes ≡ length notes₀) × (length m ≡ length m₀)
-    × ((P : Plan) → Sought P rules next m₀ claim → Passed P claim m₀ m moved steps)
+    × ((P : Plan) → Sought P rules next m₀ prices → Passed P prices m₀ m moved steps)
     × NotesFree notes₀ notes
 
 abbrev μ-loop : tie.MeasureT-loop
-μ-loop claim next rules notes₀ m₀ moved₀ steps₀ notes m moved steps = ahead (claim .n) m moved
+μ-loop prices next rules notes₀ m₀ moved₀ steps₀ notes m moved steps = ahead (prices .n) m moved
 
 begin-requires : tie.Need-begin-requires Inv-loop μ-loop
 begin-requires c κs = c .before .before .before .pre .1 .priced .room
@@ -28,8 +28,8 @@ loop-holds c = (refl, refl, λ P s. passed-none (s .search), only-refl)
 -- a plan is searched when the passes begin
 sought : (c : tie.At-loop Inv-loop μ-loop) →
     let a = c .before .before .before .before .before .before .before .args in
-    (P : Plan) → Priced P (a .rules) (a .next .now) (a .m .now) (a .claim) →
-    Sought P (a .rules) (a .next .now) (c .before .before .before .begin .last .0) (a .claim)
+    (P : Plan) → Priced P (a .rules) (a .next .now) (a .m .now) (a .prices) →
+    Sought P (a .rules) (a .next .now) (c .before .before .before .begin .last .0) (a .prices)
 sought c P = begin-sought (c .before .before .before .begin .ensures)
 
 pass-requires : tie.Need-pass-requires Inv-loop μ-loop

@@ -1,15 +1,18 @@
 -- `graph::edge_by` meets its contract, by whether the label is admitted and the masks are a choice's.
 -- Assumes nothing.
 use mathlib.Core.Path.{refl, sym, ap, _∙_}
+use mathlib.Core.Bool.{true≢false}
 use mathlib.Core.Option.{none, some}
 use Prim.Native.Nat.{_-_, _<_}
 use native.Mathlib.Omega.{arith}
 use borrow.Author.Needs.{needs}
+use Rattle.model.specs.Limits.{maxStates}
 use Rattle.model.specs.Slot.{slot}
 use Rattle.plan.specs.View.{nextOf}
 use Rattle.plan.proofs.View.{next-some}
 use Rattle.policy.specs.View.{jobsOf, tasksIn, doneOf}
 use Rattle.graph.specs.Choice.{ledOf, leadGain}
+use Rattle.graph.specs.View.{planBy}
 use Rattle.graph.proofs.Edges.{edge-none, edge-some, stepped-none}
 use Rattle.graph.proofs.edge_by.Statement.{statement}
 use Rattle.graph.proofs.edge_by.Tie as tie
@@ -26,8 +29,7 @@ returns c =
     let start = read .before in
     let a = start .args in
     stepped-none (a .next .now) (a .rules) (a .node) (a .label) (a .masks) (c .no-edge .result) (c .no-edge .ensures) (start .pre .1) (start .pre .3)
-    (λ P planned.
-    edge-none P (a .rules) (a .next .now) planned (a .node) (a .label) (a .masks) (ap nextOf (sym (c .before .if1 .taken)) ∙ read .next-state .ensures))
+    (edge-none (a .rules) (start .pre .0 .size) (a .next .now) (start .pre .2) (a .node) (a .label) (a .masks) (ap nextOf (sym (c .before .if1 .taken)) ∙ read .next-state .ensures))
 
 sub-after : tie.Need-sub-after
 sub-after c = search needs
@@ -54,9 +56,8 @@ returns-2 c =
     let to = read .next-state .result in
     let admitted : 0 < to = omega (arith, left .if1 .left) in
     stepped-none (a .next .now) (a .rules) (a .node) (a .label) (a .masks) (c .no-edge2 .result) (c .no-edge2 .ensures) (start .pre .1) (start .pre .3)
-    (λ P planned.
-    edge-some P (a .rules) (a .next .now) planned (a .node) (a .label) (a .masks) (to - 1) (sym (next-some to admitted) ∙ read .next-state .ensures)
-    (slot P (jobsOf (tasksIn (a .rules)) (a .node .cells)) (a .label)) refl
+    (edge-some (a .rules) (start .pre .0 .size) (a .next .now) (start .pre .2) (a .node) (a .label) (a .masks) (to - 1) (sym (next-some to admitted) ∙ read .next-state .ensures)
+    (slot (planBy (a .rules) (a .next .now) maxStates) (jobsOf (tasksIn (a .rules)) (a .node .cells)) (a .label)) refl
     none (ap ledOf (sym (c .before .enum-told .given .1)) ∙ chosen .choice-at .ensures .0))
 
 slot-requires : tie.Need-slot-requires
@@ -76,13 +77,14 @@ returns-3 c =
     let next = sym (next-some to admitted) ∙ read .next-state .ensures in
     let is = matched .found .given .1 in
     record {
-      edge = λ P planned.
+      edge =
           sym
-          (edge-some P (a .rules) (a .next .now) planned (a .node) (a .label) (a .masks) (to - 1) next
-          (doneOf (tasksIn (a .rules)) (slotted .slot .result)) (slotted .slot .ensures .rule P (planned .for .tasks) (planned .for .policy))
+          (edge-some (a .rules) (start .pre .0 .size) (a .next .now) (start .pre .2) (a .node) (a .label) (a .masks) (to - 1) next
+          (doneOf (tasksIn (a .rules)) (slotted .slot .result)) (slotted .slot .ensures .rule (planBy (a .rules) (a .next .now) maxStates) refl refl)
           (some (record { pattern = matched .found .given .0 .0; gain = matched .found .given .0 .1 .0 })) (ap ledOf (sym is) ∙ chosen .choice-at .ensures .0));
+      absent = λ f. absurd (true≢false f);
       cells = slotted .slot .ensures .cells;
-      state = start .pre .2 .to (a .node .state) (a .label) (to - 1) (sym next);
+      state = start .pre .2 .states .to (a .node .state) (a .label) (to - 1) (sym next);
       kept = omega (arith, slotted .slot .ok);
       ideal = omega (arith, ap leadGain is, chosen .choice-at .ensures .1);
     }

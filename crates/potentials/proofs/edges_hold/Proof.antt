@@ -16,7 +16,7 @@ use Rattle.words.proofs.Memory.{part-length}
 use Rattle.policy.specs.View.{tasksIn}
 use Rattle.graph.specs.Outcomes.{NotesFree}
 use Rattle.graph.specs.View.{nodeOf}
-use Rattle.graph.specs.declared.Node.{Node}
+use Rattle.node.specs.declared.Node.{Node}
 use Rattle.store.specs.Store.{rowBytes, rowAt}
 use Rattle.discovery.specs.Discovery.{nodeIn}
 use Rattle.potentials.specs.Potentials.{Test}

@@ -19,7 +19,7 @@ gains-requires c κs =
         few = omega (arith, circling-few k, k .holds .rows .index .few);
         plan = g .plan;
         next = g .next;
-        count = g .claim .n;
+        count = g .prices .n;
         node = k .turned .node;
         edges = k .turned .circuit .edges;
         turns = circling-turns k;
@@ -30,15 +30,15 @@ gains-requires c κs =
 lowest-requires : tie.Need-lowest-requires
 lowest-requires c κs =
     let g = c .before .before .before .before .before .before .pre .1 in
-    omega (arith, circling-some (g .circling), c .before .before .gains .ensures .0 (g .plan) (g .next) (g .claim .n) _ _ (circling-turns (g .circling)) .1)
+    omega (arith, circling-some (g .circling), c .before .before .gains .ensures .0 (g .plan) (g .next) (g .prices .n) _ _ (circling-turns (g .circling)) .1)
 
 same-length : tie.Need-same-length
 same-length c = search needs
 
 returns : tie.Need-returns
 returns c = (
-  λ P next claim k.
-      let sums = c .before .before .before .gains .ensures .0 P next (claim .n) _ _ (circling-turns k) in
+  λ P next prices k.
+      let sums = c .before .before .before .gains .ensures .0 P next (prices .n) _ _ (circling-turns k) in
       circling-lowers k (c .lowest .result) (c .lowest .ensures .0 ∙ ap₂ (λ (x y : ℕ). x / gcd x y) (sums .0) (sums .1))
       (c .lowest .ensures .1 ∙ ap₂ (λ (x y : ℕ). y / gcd x y) (sums .0) (sums .1)),
   c .before .before .before .gains .ensures .1,

@@ -3,7 +3,7 @@ use mathlib.Core.Path.{_≡_, refl, _∙_}
 use mathlib.Core.Bool.{true}
 use Prim.Native.Nat.{_+_, _<_, _≤_}
 use native.Mathlib.Omega.{arith}
-use lib.ListN.{length, drop}
+use lib.ListN.{length}
 use Rattle.model.specs.Check.{fractionOk}
 use Rattle.model.specs.Plan.{Plan}
 use Rattle.policy.specs.View.{tasksIn}
@@ -43,7 +43,7 @@ first : (c : tie.After-settle Inv-loop μ-loop) (P : Plan) →
     Planned P (a .rules) (a .next .now) → Holds P (tasksIn (a .rules)) (a .m .now) (a .n) →
     Aimed P (a .rules) (a .next .now) (c .settle .last .1 .1 .1 .1 .0) (a .n) (record { p = 1; q = 0; steps = 0 }) (c .settle .result)
 first c P planned holds =
-    aimed-after planned holds nothing-recurs (λ h. absurd (omega (arith, h)))
+    aimed-after planned holds nothing-recurs (λ h. absurd (omega (arith, h))) (λ e. refl)
     (c .settle .ensures .0 P (record { planned = planned; holds = holds; fraction = nothing-recurs; room = c .before .before .before .before .before .pre .2 }))
 
 loop-holds : tie.Need-loop-holds Inv-loop μ-loop
@@ -69,7 +69,7 @@ attained-requires c κs =
     let s = l .before .before .before .before .before .before .before .before .before .before in
     let found : 0 < l .loop .found = omega (arith, c .before .before .loop-test .taken) in (
       s .pre .0,
-      record { plan = s .pre .1 .plan; next = s .args .next .now; claim = _; circling = aimed-circling (here l) found },
+      record { plan = s .pre .1 .plan; next = s .args .next .now; prices = _; circling = aimed-circling (here l) found },
       room l,
       notes-room l,
     )
@@ -110,7 +110,7 @@ loop-again c =
       λ P e.
           let a = inv .3 P e in
           let f = lower .ensures .0 P _ _ (aimed-circling a found) in
-          aimed-after (a .planned) (a .holds) (f .fraction) (λ h. f .tight)
+          aimed-after (a .planned) (a .holds) (f .fraction) (λ h. f .tight) (λ zero-q. absurd (omega (arith, f .some, zero-q)))
           (call .ensures .0 P (record { planned = a .planned; holds = a .holds; fraction = f .fraction; room = room l })),
     )
 

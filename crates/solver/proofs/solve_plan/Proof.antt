@@ -6,6 +6,7 @@ use borrow.Author.Needs.{needs}
 use Rattle.model.specs.Graph.{nodes}
 use Rattle.plan.specs.View.{planOf}
 use Rattle.graph.specs.View.{Planned}
+use Rattle.graph.proofs.Notes.{notes-long}
 use Rattle.graph.proofs.View.{planned-of}
 use Rattle.words.proofs.Free.{only-trans, only-wider}
 use Rattle.discovery.specs.Discovery.{sizeOf}
@@ -32,7 +33,7 @@ discover-requires c κs =
     let rules = c .before .before .before .before .before in
     let s = c .before .before .before .before .before .before .before .before in (
       (rules .rules-of .ensures .ruled, record { plan = planOf (s .args .plan); planned = planned rules }),
-      (omega (arith, s .pre .2), omega (arith, c .before .before .before .note-space .ensures)),
+      (omega (arith, s .pre .2), omega (arith, notes-long (c .before .before .before .note-space .ensures))),
     )
 
 enum-told : tie.Need-enum-told
@@ -53,7 +54,7 @@ solve-nodes-requires c κs =
       rules .rules-of .ensures .ruled,
       record { plan = p; planned = planned rules; holds = found .discover .ensures .0 .held _ (c .before .before .before .before .before .n .given .1) p (planned rules) },
       omega (arith, s .pre .2, found .discover .kept .1 .1 .1 .0),
-      omega (arith, c .before .before .before .before .before .before .before .before .before .before .before .before .before .before .note-space .ensures, found .discover .kept .1 .1 .0),
+      omega (arith, notes-long (c .before .before .before .before .before .before .before .before .before .before .before .before .before .before .note-space .ensures), found .discover .kept .1 .1 .0),
       s .pre .3,
     )
 
