@@ -22,7 +22,7 @@ use Rattle.certificate.specs.View.{headCommand, nodeCommand, headSize, p
 use Rattle.certificate.proofs.Runs.{items-length}
 
 -- the parts are those of the certificate, where it ends
-pub ended-parts : (b : Bool) (c : Certificate) (parts : Parts) → parts ≡ partsOf c → cond b (Read parts) Fault ≡ inPlace (cond b (some c) none)
+ended-parts : (b : Bool) (c : Certificate) (parts : Parts) → parts ≡ partsOf c → cond b (Read parts) Fault ≡ inPlace (cond b (some c) none)
 ended-parts true c parts e = ap Read e
 ended-parts false c parts e = refl
 

@@ -1,3 +1,4 @@
 pub mod Forms
 pub mod Placed
+pub mod Readers
 pub mod Runs

@@ -108,6 +108,15 @@ module _ {A : Type 0} (read : ℕ → List ℕ → Option (Parsed (List A))) (it
 pub has-room : (bs : List ℕ) (at c n : ℕ) → at ≤ length bs → has (drop at bs) c n ≡ true → at + n ≤ length bs
 has-room bs at c n h e = omega (arith, leb-true n (length (drop at bs)) (both (eqb (getD (drop at bs) 0 0) c) (leb n (length (drop at bs))) e .1), length-drop at bs)
 
+-- a command is told by its first byte: none is 0, which stands for a missing byte
+pub has-one : (c : ℕ) → eqb 0 c ≡ false → (l : List ℕ) → has l c 1 ≡ eqb (getD l 0 0) c
+has-one c e [] = ap (λ b. b && leb 1 0) e ∙ sym e
+has-one c e (x ∷ l) = by (eqb x c)
+  where
+    by : (b : Bool) → (b && leb 1 (length (x ∷ l))) ≡ b
+    by true = le-leb 1 (length (x ∷ l)) (omega arith)
+    by false = refl
+
 -- ---- the potentials
 
 module _ (bs : List ℕ) (at : ℕ) where
@@ -124,15 +133,6 @@ module _ (bs : List ℕ) (at : ℕ) where
 
 -- ---- the steps
 
--- the command of a step is no 0, which stands for a missing byte
-step-command : (l : List ℕ) → has l stepCommand 1 ≡ eqb (getD l 0 0) stepCommand
-step-command [] = refl
-step-command (x ∷ l) = by (eqb x stepCommand)
-  where
-    by : (b : Bool) → (b && leb 1 (length (x ∷ l))) ≡ b
-    by true = le-leb 1 (length (x ∷ l)) (omega arith)
-    by false = refl
-
 module _ (bs : List ℕ) (at : ℕ) where
   -- what is read after the command
   abbrev more : ℕ → Option (Parsed (List Step))
@@ -142,7 +142,7 @@ module _ (bs : List ℕ) (at : ℕ) where
       readSteps (suc m) (drop at bs) ≡ consParsed (stepIn bs at) (readSteps m (drop (at + stepSize) bs))
   unfolding readSteps
   step-next e h m =
-      let here : eqb (getD (drop at bs) 0 0) stepCommand ≡ true = sym (step-command (drop at bs)) ∙ e in
+      let here : eqb (getD (drop at bs) 0 0) stepCommand ≡ true = sym (has-one stepCommand refl (drop at bs)) ∙ e in
       let room : leb stepSize (length (drop at bs)) ≡ true = le-leb stepSize (length (drop at bs)) (rw length-drop h) in
       (λ i. cond (here i) (cond (room i) (more m) none) (some (record { value = []; rest = drop at bs })))
       ∙ (λ i. consParsed (record { label = getD-drop at bs 1 0 i; masks = take masksWidth (drop-drop 2 at bs i) }) (readSteps m (drop-drop stepSize at bs i)))
@@ -150,7 +150,7 @@ module _ (bs : List ℕ) (at : ℕ) where
   pub step-fault : has (drop at bs) stepCommand 1 ≡ true → length bs - at < stepSize → (m : ℕ) → readSteps (suc m) (drop at bs) ≡ none
   unfolding readSteps
   step-fault e h m =
-      let here : eqb (getD (drop at bs) 0 0) stepCommand ≡ true = sym (step-command (drop at bs)) ∙ e in
+      let here : eqb (getD (drop at bs) 0 0) stepCommand ≡ true = sym (has-one stepCommand refl (drop at bs)) ∙ e in
       let room : leb stepSize (length (drop at bs)) ≡ false = lt-leb stepSize (length (drop at bs)) (rw length-drop h) in
       λ i. cond (here i) (cond (room i) (more m) none) (some (record { value = []; rest = drop at bs }))
 
@@ -158,5 +158,5 @@ module _ (bs : List ℕ) (at : ℕ) where
   unfolding readSteps
   step-none e zero = refl
   step-none e (suc m) =
-      let gone : eqb (getD (drop at bs) 0 0) stepCommand ≡ false = sym (step-command (drop at bs)) ∙ e in
+      let gone : eqb (getD (drop at bs) 0 0) stepCommand ≡ false = sym (has-one stepCommand refl (drop at bs)) ∙ e in
       λ i. cond (gone i) (cond (leb stepSize (length (drop at bs))) (more m) none) (some (record { value = []; rest = drop at bs }))

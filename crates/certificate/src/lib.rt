@@ -1,10 +1,12 @@
 // Certificates: the form, read in place.
 use node::Node;
 ghost use mathlib.Core.Path.{_≡_};
+ghost use mathlib.Core.Logic.{_⊎_};
 ghost use mathlib.Core.Option.{some};
 ghost use Prim.Native.Nat.{_+_, _*_, _^_, _≤_, _<_};
 ghost use lib.ListN.{length, drop};
 ghost use Rattle.model.specs.Limits.{maxSteps};
+ghost use Rattle.model.specs.Bytes.{number, part};
 ghost use Rattle.model.specs.Check as check-model;
 ghost use Rattle.model.specs.Certificate as model;
 ghost use Rattle.certificate.specs.View.{headSize, potentialSize, stepSize, potentialIn, stepIn, certificateOf, inPlace, runOf, Inside, IsRead, HasPotential, stepAt, endedAt, cycleFrom};
@@ -46,6 +48,12 @@ struct Cursor {
     at: usize,
 }
 
+// A certificate's bytes, and the place of the next one to be read.
+pub struct Reader<'a> {
+    src: &'a [u8],
+    at: usize,
+}
+
 // So many items, and the cursor after them.
 enum Run {
     Fault,
@@ -60,16 +68,78 @@ fn past(cursor: Cursor, n: usize) -> Cursor
     Cursor { at: cursor.at + n }
 }
 
-// Whether a command stands at the cursor, with n bytes in all.
-fn has(s: &[u8], cursor: Cursor, command: u8, n: usize) -> bool
-    requires { ⌜ (cursor .at ≤ length (now s)) × (0 < n) ⌝ }
-    ensures { λ b. ⌜ b ≡ model.has (drop (cursor .at) (now (s .entry))) command n ⌝ }
+// Whether a command stands at a place, with n bytes in all.
+fn has(s: &[u8], at: usize, command: u8, n: usize) -> bool
+    requires { ⌜ (at ≤ length (now s)) × (0 < n) ⌝ }
+    ensures { λ b. ⌜ b ≡ model.has (drop at (now (s .entry))) command n ⌝ }
 {
-    let at = cursor.at;
     if s.len() - at < n {
         return false;
     }
     s[at] == command
+}
+
+// The operand of two or four bytes at a place.
+fn operand(s: &[u8], at: usize, width: usize) -> u32
+    requires { ⌜ (at + width ≤ length (now s)) × ((width ≡ 2) ⊎ (width ≡ 4)) ⌝ }
+    ensures { λ r. ⌜ r ≡ number (part (now (s .entry)) at width) ⌝ }
+{
+    if width == 2 {
+        return words::read_u16(s, at) as u32;
+    }
+    words::read_u32(s, at)
+}
+
+impl<'a> Reader<'a> {
+    // A reader at the first byte.
+    pub fn new(src: &'a [u8]) -> Reader<'a>
+        ensures { λ r. ⌜ (r .src ≡ src .entry) × (r .at ≡ 0) ⌝ }
+    {
+        Reader { src, at: 0 }
+    }
+
+    // The reader n bytes on.
+    pub fn past(self, n: usize) -> Reader<'a>
+        requires { ⌜ self .at + n < 2 ^ 64 ⌝ }
+        ensures { λ r. ⌜ (r .src ≡ self .entry .src) × (r .at ≡ self .entry .at + n) ⌝ }
+    {
+        Reader {
+            src: self.src,
+            at: self.at + n,
+        }
+    }
+
+    // Whether a command stands here, with n bytes in all.
+    pub fn has(self, command: u8, n: usize) -> bool
+        requires { ⌜ (self .at ≤ length (now (self .src))) × (0 < n) ⌝ }
+        ensures { λ b. ⌜ b ≡ model.has (drop (self .entry .at) (now (self .entry .src))) command n ⌝ }
+    {
+        has(self.src, self.at, command, n)
+    }
+
+    // The operand of two or four bytes here.
+    pub fn operand(self, width: usize) -> u32
+        requires { ⌜ (self .at + width ≤ length (now (self .src))) × ((width ≡ 2) ⊎ (width ≡ 4)) ⌝ }
+        ensures { λ r. ⌜ r ≡ number (part (now (self .entry .src)) (self .entry .at) width) ⌝ }
+    {
+        operand(self.src, self.at, width)
+    }
+}
+
+// Whether a command stands at a place, asked of a reader.
+fn has_at(s: &[u8], at: usize, command: u8, n: usize) -> bool
+    requires { ⌜ (at ≤ length (now s)) × (0 < n) ⌝ }
+    ensures { λ b. ⌜ b ≡ model.has (drop at (now (s .entry))) command n ⌝ }
+{
+    Reader::new(s).past(at).has(command, n)
+}
+
+// The operand at a place, asked of a reader.
+fn operand_at(s: &[u8], at: usize, width: usize) -> u32
+    requires { ⌜ (at + width ≤ length (now s)) × ((width ≡ 2) ⊎ (width ≡ 4)) ⌝ }
+    ensures { λ r. ⌜ r ≡ number (part (now (s .entry)) at width) ⌝ }
+{
+    Reader::new(s).past(at).operand(width)
 }
 
 // The potentials from the cursor on, n of them.
@@ -81,7 +151,7 @@ fn potentials(s: &[u8], from: Cursor, n: usize) -> Run
     let mut i = 0;
     let mut cursor = from;
     while i < n {
-        if !has(s, cursor, 0x12, POTENTIAL_SIZE) {
+        if !has_at(s, cursor.at, 0x12, POTENTIAL_SIZE) {
             return Run::Fault;
         }
         cursor = past(cursor, POTENTIAL_SIZE);
@@ -99,7 +169,7 @@ fn steps(s: &[u8], from: Cursor) -> Run
     let mut i = 0;
     let mut cursor = from;
     while i < MAX_STEPS {
-        if !has(s, cursor, 0x14, 1) {
+        if !has_at(s, cursor.at, 0x14, 1) {
             return Run::Items(i, cursor);
         }
         if s.len() - cursor.at < STEP_SIZE {
@@ -120,7 +190,7 @@ fn ended(s: &[u8], cursor: Cursor, parts: Parts) -> Form
     if s.len() - at != 1 {
         return Form::Fault;
     }
-    if s[at] != 0x15 {
+    if !has_at(s, at, 0x15, 1) {
         return Form::Fault;
     }
     Form::Read(parts)
@@ -131,10 +201,10 @@ fn cycle(s: &[u8], p: u32, q: u32, count: usize, cursor: Cursor) -> Form
     requires { ⌜ (cursor .at ≡ headSize + potentialSize * count) × (cursor .at ≤ length (now s)) × (q ≡ 0 → ⊥) ⌝ }
     ensures { λ r. ⌜ r ≡ inPlace (cycleFrom (now (s .entry)) p q count (cursor .at)) ⌝ }
 {
-    if !has(s, cursor, 0x13, CYCLE_SIZE) {
+    if !has_at(s, cursor.at, 0x13, CYCLE_SIZE) {
         return Form::Fault;
     }
-    let node = words::read_u16(s, cursor.at + 1) as usize;
+    let node = operand_at(s, cursor.at + 1, 2) as usize;
     let from = past(cursor, CYCLE_SIZE);
     let Run::Items(n, end) = steps(s, from) else {
         return Form::Fault;
@@ -161,12 +231,12 @@ pub fn read(s: &[u8]) -> Form
     ensures { λ r. ⌜ r ≡ inPlace (model.readCertificate (now (s .entry))) ⌝ }
 {
     let start = Cursor { at: 0 };
-    if !has(s, start, 0x11, HEAD_SIZE) {
+    if !has_at(s, start.at, 0x11, HEAD_SIZE) {
         return Form::Fault;
     }
-    let p = words::read_u32(s, start.at + 1);
-    let q = words::read_u32(s, start.at + 5);
-    let n = words::read_u16(s, start.at + 9) as usize;
+    let p = operand_at(s, start.at + 1, 4);
+    let q = operand_at(s, start.at + 5, 4);
+    let n = operand_at(s, start.at + 9, 2) as usize;
     if n < 1 {
         return Form::Fault;
     }

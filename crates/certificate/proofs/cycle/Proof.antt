@@ -1,7 +1,8 @@
 -- `certificate::cycle` meets its contract: the node, the steps and the end.
 -- Assumes nothing.
-use mathlib.Core.Path.{_≡_, sym, ap, _∙_, subst}
+use mathlib.Core.Path.{_≡_, refl, sym, ap, _∙_, subst}
 use mathlib.Core.Bool.{true}
+use mathlib.Core.Logic.{inl}
 use denote.Ref.{now}
 use Prim.Native.Nat.{_+_, _≤_}
 use native.Mathlib.Omega.{arith}
@@ -15,26 +16,26 @@ use Rattle.certificate.proofs.Forms.{cycle-missing, cycle-fault, cycle-
 use Rattle.certificate.proofs.cycle.Statement.{statement}
 use Rattle.certificate.proofs.cycle.Tie as tie
 
-has-requires : tie.Need-has-requires
-has-requires c κs = search needs
+has-at-requires : tie.Need-has-at-requires
+has-at-requires c κs = search needs
 
 returns : tie.Need-returns
 returns c =
     let a = c .before .before .before .args in
-    ap inPlace (cycle-missing (now (a .s)) (a .p) (a .q) (a .count) (a .cursor .at) (sym (c .before .has .ensures) ∙ not-true _ (c .if1 .taken)))
+    ap inPlace (cycle-missing (now (a .s)) (a .p) (a .q) (a .count) (a .cursor .at) (sym (c .before .has-at .ensures) ∙ not-true _ (c .if1 .taken)))
 
 -- the cycle's start stands here
 stands : (c : tie.Else1) → has (drop (c .before .before .before .args .cursor .at) (now (c .before .before .before .args .s))) nodeCommand cycleSize ≡ true
-stands c = sym (c .before .has .ensures) ∙ not-false _ (c .if1 .left)
+stands c = sym (c .before .has-at .ensures) ∙ not-false _ (c .if1 .left)
 
 room : (c : tie.Else1) → c .before .before .before .args .cursor .at + cycleSize ≤ length (now (c .before .before .before .args .s))
 room c = let a = c .before .before .before in has-room (now (a .args .s)) (a .args .cursor .at) _ _ (a .pre .1) (stands c)
 
-add-read-u16 : tie.Need-add-read-u16
-add-read-u16 c = omega (arith, room (c .before))
+add-operand-at : tie.Need-add-operand-at
+add-operand-at c = omega (arith, room (c .before))
 
-read-u16-requires : tie.Need-read-u16-requires
-read-u16-requires c κs = omega (arith, room (c .before))
+operand-at-requires : tie.Need-operand-at-requires
+operand-at-requires c κs = (omega (arith, room (c .before)), inl refl)
 
 cast-node : tie.Need-cast-node
 cast-node c = search needs
@@ -84,16 +85,16 @@ returns-4 c =
     let a = start .args in
     c .ended .ensures
     ∙ cycle-read (now (a .s)) (a .p) (a .q) (a .count) (a .cursor .at) (stands e) _ (r .before .past .ensures) _ (r .steps .ensures .1) _ _ (n .n .given .1)
-    (c .before .if2 .left) _ (r .before .before .read-u16 .ensures) (start .pre .0) (start .pre .2)
+    (c .before .if2 .left) _ (r .before .before .operand-at .ensures) (start .pre .0) (start .pre .2)
 
 pub cycle-spec : {M : Type 1} → statement M
 cycle-spec =
     tie.close
     (tie.spec
-    has-requires
+    has-at-requires
     returns
-    add-read-u16
-    read-u16-requires
+    add-operand-at
+    operand-at-requires
     cast-node
     past-requires
     steps-requires

@@ -17,11 +17,11 @@ use Rattle.certificate.proofs.has.Tie as tie
 -- the tests in place
 by-room : (a : tie.Start) (b : Bool) →
     let bs = now (a .args .s) in
-    let at = a .args .cursor .at in
+    let at = a .args .at in
     leb (a .args .n) (length bs - at) ≡ b → (eqb (getD bs at 0) (a .args .command) && b) ≡ model.has (drop at bs) (a .args .command) (a .args .n)
 by-room a b e =
     let bs = now (a .args .s) in
-    let at = a .args .cursor .at in
+    let at = a .args .at in
     sym
     (ap₂ (λ (x m : ℕ). eqb x (a .args .command) && leb (a .args .n) m) (getD-drop at bs 0 0 ∙ ap (λ (k : ℕ). getD bs k 0) (add-zero at)) (length-drop at bs)
     ∙ ap (λ t. eqb (getD bs at 0) (a .args .command) && t) e)
@@ -32,7 +32,7 @@ sub-if1 c = search needs
 returns : tie.Need-returns
 returns c =
     let a = c .before .args in
-    sym (and-false (eqb (getD (now (a .s)) (a .cursor .at) 0) (a .command))) ∙ by-room (c .before) false (lt-leb _ _ (c .if1 .taken))
+    sym (and-false (eqb (getD (now (a .s)) (a .at) 0) (a .command))) ∙ by-room (c .before) false (lt-leb _ _ (c .if1 .taken))
 
 shared-slice-read-result : tie.Need-shared-slice-read-result
 shared-slice-read-result c = search needs

@@ -31,19 +31,19 @@ bytes h = now (h .before .before .args .s)
 abbrev place : tie.At-loop Inv-loop μ-loop → ℕ
 place h = h .loop .cursor .at
 
-has-requires : tie.Need-has-requires Inv-loop μ-loop
-has-requires c κs = (c .before .loop .inv .inside, omega arith)
+has-at-requires : tie.Need-has-at-requires Inv-loop μ-loop
+has-at-requires c κs = (c .before .loop .inv .inside, omega arith)
 
 returns : tie.Need-returns Inv-loop μ-loop
 unfolding readPotentials
 returns c =
     let l = c .before .before in
-    let gone = sym (c .before .has .ensures) ∙ not-true _ (c .if1 .taken) in
+    let gone = sym (c .before .has-at .ensures) ∙ not-true _ (c .if1 .taken) in
     (tt, reached-fault _ _ _ _ _ _ _ _ (l .before .loop .inv) (l .loop-test .taken) (potential-fault (bytes (l .before)) (place (l .before)) gone))
 
 -- a potential stands here
 stands : (c : tie.Else1 Inv-loop μ-loop) → has (drop (place (c .before .before .before)) (bytes (c .before .before .before))) potentialCommand potentialSize ≡ true
-stands c = sym (c .before .has .ensures) ∙ not-false _ (c .if1 .left)
+stands c = sym (c .before .has-at .ensures) ∙ not-false _ (c .if1 .left)
 
 room : (c : tie.Else1 Inv-loop μ-loop) → place (c .before .before .before) + potentialSize ≤ length (bytes (c .before .before .before))
 room c = has-room (bytes (c .before .before .before)) (place (c .before .before .before)) _ _ (c .before .before .before .loop .inv .inside) (stands c)
@@ -78,7 +78,7 @@ potentials-spec =
     Inv-loop
     μ-loop
     loop-holds
-    has-requires
+    has-at-requires
     returns
     past-requires
     add-i

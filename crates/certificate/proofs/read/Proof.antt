@@ -1,7 +1,8 @@
 -- `certificate::read` meets its contract: the head, the potentials, and a cycle unless q is 0.
 -- Assumes nothing.
-use mathlib.Core.Path.{_≡_, sym, ap, _∙_, subst}
+use mathlib.Core.Path.{_≡_, refl, sym, ap, _∙_, subst}
 use mathlib.Core.Bool.{true}
+use mathlib.Core.Logic.{inl, inr}
 use mathlib.Core.List.{List}
 use denote.Ref.{now}
 use Prim.Native.Nat.{ℕ, _+_, _*_, _≤_}
@@ -16,52 +17,52 @@ use Rattle.certificate.proofs.Forms.{head-missing, no-nodes, many-nodes
 use Rattle.certificate.proofs.read.Statement.{statement}
 use Rattle.certificate.proofs.read.Tie as tie
 
-has-requires : tie.Need-has-requires
-has-requires c κs = search needs
+has-at-requires : tie.Need-has-at-requires
+has-at-requires c κs = search needs
 
 returns : tie.Need-returns
-returns c = ap inPlace (head-missing (now (c .before .before .before .args .s)) (sym (c .before .has .ensures) ∙ not-true _ (c .if1 .taken)))
+returns c = ap inPlace (head-missing (now (c .before .before .before .args .s)) (sym (c .before .has-at .ensures) ∙ not-true _ (c .if1 .taken)))
 
 -- the head stands here
 stands : (c : tie.Else1) → has (now (c .before .before .before .args .s)) headCommand headSize ≡ true
-stands c = sym (c .before .has .ensures) ∙ not-false _ (c .if1 .left)
+stands c = sym (c .before .has-at .ensures) ∙ not-false _ (c .if1 .left)
 
 room : (c : tie.Else1) → headSize ≤ length (now (c .before .before .before .args .s))
 room c = omega (arith, has-room (now (c .before .before .before .args .s)) 0 _ _ (omega arith) (stands c))
 
-add-read-u32 : tie.Need-add-read-u32
-add-read-u32 c = search needs
+add-operand-at : tie.Need-add-operand-at
+add-operand-at c = search needs
 
-read-u32-requires : tie.Need-read-u32-requires
-read-u32-requires c κs = omega (arith, room (c .before))
+operand-at-requires : tie.Need-operand-at-requires
+operand-at-requires c κs = (omega (arith, room (c .before)), inr refl)
 
-add-read-u32-2 : tie.Need-add-read-u32-2
-add-read-u32-2 c = search needs
+add-operand-at-2 : tie.Need-add-operand-at-2
+add-operand-at-2 c = search needs
 
-read-u32-requires-2 : tie.Need-read-u32-requires-2
-read-u32-requires-2 c κs = omega (arith, room (c .before .before .before))
+operand-at-requires-2 : tie.Need-operand-at-requires-2
+operand-at-requires-2 c κs = (omega (arith, room (c .before .before .before)), inr refl)
 
-add-read-u16 : tie.Need-add-read-u16
-add-read-u16 c = search needs
+add-operand-at-3 : tie.Need-add-operand-at-3
+add-operand-at-3 c = search needs
 
-read-u16-requires : tie.Need-read-u16-requires
-read-u16-requires c κs = room (c .before .before .before .before .before)
+operand-at-requires-3 : tie.Need-operand-at-requires-3
+operand-at-requires-3 c κs = (room (c .before .before .before .before .before), inl refl)
 
 cast-n : tie.Need-cast-n
 cast-n c = search needs
 
 -- the head that the number of potentials was read from
-abbrev head : tie.After-read-u16 → tie.Else1
+abbrev head : tie.After-operand-at3 → tie.Else1
 head n = n .before .before .before .before .before .before
 
-abbrev bytes : tie.After-read-u16 → List ℕ
+abbrev bytes : tie.After-operand-at3 → List ℕ
 bytes n = now (head n .before .before .before .args .s)
 
 returns-2 : tie.Need-returns-2
-returns-2 c = let n = c .before in ap inPlace (no-nodes (bytes n) (stands (head n)) _ (n .read-u16 .ensures) (c .if2 .taken))
+returns-2 c = let n = c .before in ap inPlace (no-nodes (bytes n) (stands (head n)) _ (n .operand-at3 .ensures) (c .if2 .taken))
 
 returns-3 : tie.Need-returns-3
-returns-3 c = let n = c .before .before in ap inPlace (many-nodes (bytes n) (stands (head n)) _ (n .read-u16 .ensures) (c .before .if2 .left) (c .if3 .taken))
+returns-3 c = let n = c .before .before in ap inPlace (many-nodes (bytes n) (stands (head n)) _ (n .operand-at3 .ensures) (c .before .if2 .left) (c .if3 .taken))
 
 past-requires : tie.Need-past-requires
 past-requires c = search needs
@@ -78,10 +79,10 @@ enum-told c = search needs
 -- the potentials are those after the head
 after-head : (r : tie.After-potentials) →
     let n = r .before .before .before .before in
-    runOf (bytes n) (potentialIn (bytes n)) headSize potentialSize (r .potentials .result) ≡ readPotentials (n .read-u16 .result) (drop headSize (bytes n))
+    runOf (bytes n) (potentialIn (bytes n)) headSize potentialSize (r .potentials .result) ≡ readPotentials (n .operand-at3 .result) (drop headSize (bytes n))
 after-head r =
     let n = r .before .before .before .before in
-    subst (λ (k : ℕ). runOf (bytes n) (potentialIn (bytes n)) k potentialSize (r .potentials .result) ≡ readPotentials (n .read-u16 .result) (drop k (bytes n)))
+    subst (λ (k : ℕ). runOf (bytes n) (potentialIn (bytes n)) k potentialSize (r .potentials .result) ≡ readPotentials (n .operand-at3 .result) (drop k (bytes n)))
     (r .before .past .ensures) (r .potentials .ensures .1)
 
 returns-4 : tie.Need-returns-4
@@ -89,8 +90,8 @@ returns-4 c =
     let r = c .before .before in
     let n = r .before .before .before .before in
     ap inPlace
-    (potentials-fault (bytes n) (stands (head n)) _ (n .read-u16 .ensures) (r .before .before .before .if2 .left) (r .before .before .if3 .left) _ _
-    (n .before .before .before .before .read-u32 .ensures) (n .before .before .read-u322 .ensures) _ (after-head r) (c .enum-told .given .1))
+    (potentials-fault (bytes n) (stands (head n)) _ (n .operand-at3 .ensures) (r .before .before .before .if2 .left) (r .before .before .if3 .left) _ _
+    (n .before .before .before .before .operand-at .ensures) (n .before .before .operand-at2 .ensures) _ (after-head r) (c .enum-told .given .1))
 
 -- the potentials end where they have all been read, within the bytes
 after : (k : tie.After-count) →
@@ -111,8 +112,8 @@ returns-5 c =
     let n = r .before .before .before .before in
     c .cycle .ensures
     ∙ ap inPlace
-    (with-cycle (bytes n) (stands (head n)) _ (n .read-u16 .ensures) (r .before .before .before .if2 .left) (r .before .before .if3 .left) _ _
-    (n .before .before .before .before .read-u32 .ensures) (n .before .before .read-u322 .ensures) _ (after-head r) _ _ (k .count .given .1) (c .before .if4 .taken))
+    (with-cycle (bytes n) (stands (head n)) _ (n .operand-at3 .ensures) (r .before .before .before .if2 .left) (r .before .before .if3 .left) _ _
+    (n .before .before .before .before .operand-at .ensures) (n .before .before .operand-at2 .ensures) _ (after-head r) _ _ (k .count .given .1) (c .before .if4 .taken))
 
 ended-requires : tie.Need-ended-requires
 ended-requires c κs = after (c .before .before) .1
@@ -123,21 +124,21 @@ returns-6 c =
     let r = k .before .before in
     let n = r .before .before .before .before in
     c .ended .ensures
-    ∙ without-cycle (bytes n) (stands (head n)) _ (n .read-u16 .ensures) (r .before .before .before .if2 .left) (r .before .before .if3 .left) _ _
-    (n .before .before .before .before .read-u32 .ensures) (n .before .before .read-u322 .ensures) _ (after-head r) _ _ (k .count .given .1) (c .before .if4 .left) (after k .0)
+    ∙ without-cycle (bytes n) (stands (head n)) _ (n .operand-at3 .ensures) (r .before .before .before .if2 .left) (r .before .before .if3 .left) _ _
+    (n .before .before .before .before .operand-at .ensures) (n .before .before .operand-at2 .ensures) _ (after-head r) _ _ (k .count .given .1) (c .before .if4 .left) (after k .0)
 
 pub read-spec : {M : Type 1} → statement M
 read-spec =
     tie.close
     (tie.spec
-    has-requires
+    has-at-requires
     returns
-    add-read-u32
-    read-u32-requires
-    add-read-u32-2
-    read-u32-requires-2
-    add-read-u16
-    read-u16-requires
+    add-operand-at
+    operand-at-requires
+    add-operand-at-2
+    operand-at-requires-2
+    add-operand-at-3
+    operand-at-requires-3
     cast-n
     returns-2
     returns-3

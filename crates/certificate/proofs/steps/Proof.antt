@@ -32,20 +32,20 @@ bytes h = now (h .before .before .args .s)
 abbrev place : tie.At-loop Inv-loop μ-loop → ℕ
 place h = h .loop .cursor .at
 
-has-requires : tie.Need-has-requires Inv-loop μ-loop
-has-requires c κs = (c .before .loop .inv .inside, omega arith)
+has-at-requires : tie.Need-has-at-requires Inv-loop μ-loop
+has-at-requires c κs = (c .before .loop .inv .inside, omega arith)
 
 returns : tie.Need-returns Inv-loop μ-loop
 returns c =
     let l = c .before .before .before in
-    ((l .loop .inv .place, l .loop .inv .inside), reached-end _ _ _ _ _ _ _ _ (l .loop .inv) (step-none (bytes l) (place l) (sym (c .before .has .ensures) ∙ not-true _ (c .if1 .taken)) _))
+    ((l .loop .inv .place, l .loop .inv .inside), reached-end _ _ _ _ _ _ _ _ (l .loop .inv) (step-none (bytes l) (place l) (sym (c .before .has-at .ensures) ∙ not-true _ (c .if1 .taken)) _))
 
 sub-if2 : tie.Need-sub-if2 Inv-loop μ-loop
 sub-if2 c = c .before .before .before .before .loop .inv .inside
 
 -- a step stands here
 stands : (c : tie.Else1 Inv-loop μ-loop) → has (drop (place (c .before .before .before)) (bytes (c .before .before .before))) stepCommand 1 ≡ true
-stands c = sym (c .before .has .ensures) ∙ not-false _ (c .if1 .left)
+stands c = sym (c .before .has-at .ensures) ∙ not-false _ (c .if1 .left)
 
 returns-2 : tie.Need-returns-2 Inv-loop μ-loop
 returns-2 c =
@@ -84,7 +84,7 @@ steps-spec =
     Inv-loop
     μ-loop
     loop-holds
-    has-requires
+    has-at-requires
     returns
     sub-if2
     returns-2
