@@ -134,6 +134,7 @@ pub fn check(plan: &[u8], certificate: &[u8], work: &mut [u8]) -> Answer
         return Answer::Refused(Refusal::ShortMemory);
     }
     let answer = check_bytes(plan, certificate, work);
-    words::clear(work);
+    let lent = work.len();
+    words::fill(work, 0, lent, 0);
     answer
 }

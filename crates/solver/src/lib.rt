@@ -90,6 +90,7 @@ pub fn solve(plan: &[u8], work: &mut [u8], out: &mut [u8]) -> Answer
         return Answer::Refused(Refusal::ShortMemory);
     }
     let answer = solve_bytes(plan, work, out);
-    words::clear(work);
+    let lent = work.len();
+    words::fill(work, 0, lent, 0);
     answer
 }

@@ -61,12 +61,12 @@ fn write_slots(rules: Rules, labels: &[u8], out: &mut [u8])
     ensures { λ _. ⌜ ((P : model.Plan) → P .tasks ≡ tasksIn rules → P .policy ≡ rules .policy → now (out .exit) ≡ overwrite (now (out .entry)) 0 (model-trace.traceBytes (model-trace.slots P [] (now (labels .entry))))) ⌝ }
 {
     let mut cells = policy::no_jobs();
-    let mut i = 0;
-    while i < labels.len() {
-        let done = policy::slot(rules, cells, labels[i]);
-        put_slot(out, 3 * i, done.ran, done.gain);
+    let mut slot = 0;
+    while slot < labels.len() {
+        let done = policy::slot(rules, cells, labels[slot]);
+        put_slot(out, 3 * slot, done.ran, done.gain);
         cells = done.cells;
-        i += 1;
+        slot += 1;
     }
 }
 

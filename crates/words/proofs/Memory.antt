@@ -4,11 +4,11 @@ use mathlib.Core.Logic.{_⊎_, ⊎-elim, ⊎-map}
 use mathlib.Core.List.{List, [], _∷_, _++_, append-assoc, append-nil}
 use Prim.Native.Nat.{ℕ, suc, _+_, _-_, _≤_, _<_}
 use native.Mathlib.Omega.{arith}
-use lib.ListN.{length, getD, set, take, drop, length-append, length-take, length-drop, take-append-drop, drop-of-length-le, List·getD-append}
+use lib.ListN.{length, getD, set, take, drop, replicate, length-append, length-replicate, length-take, length-drop, take-append-drop, drop-of-length-le, List·getD-append}
 use lib.Seq.{length-take-le, take-at, drop-at, take-append-seam, drop-append-add, drop-drop, getD-append-add, getD-take, getD-drop, set-split, take-suc, append-snoc, ext-getD}
 use native.Mathlib.Nat.{add-zero, add-assoc}
 use native.Mathlib.Numerals.{add-one}
-use Rattle.model.specs.Bytes.{part, overwrite}
+use Rattle.model.specs.Bytes.{part, overwrite, cleared}
 
 -- two lists of one length that agree in a place have the same part there
 pub part-ext : (l r : List ℕ) (at k : ℕ) → length l ≡ length r
@@ -31,6 +31,10 @@ overwrite-one m at b h = set-split m at b h ∙ sym (rw (add-one) (append-snoc (
 pub overwrite-all : (m bs : List ℕ) → length bs ≡ length m → overwrite m 0 bs ≡ bs
 unfolding overwrite
 overwrite-all m bs same = let h : length m ≤ 0 + length bs = omega arith in rw (drop-of-length-le m h) (append-nil bs)
+
+-- zeros as many as there are bytes
+pub overwrite-zeros : (m : List ℕ) → overwrite m 0 (replicate (length m) 0) ≡ cleared m
+overwrite-zeros m = overwrite-all m (replicate (length m) 0) (length-replicate (length m) 0)
 
 module _ (m : List ℕ) (at : ℕ) (bs : List ℕ) (fits : at + length bs ≤ length m) where
   head-length : length (take at m) ≡ at

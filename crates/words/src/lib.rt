@@ -2,7 +2,7 @@
 ghost use mathlib.Core.Path.{_≡_};
 ghost use Prim.Native.Nat.{_+_, _≤_, _<_};
 ghost use lib.ListN.{length, replicate};
-ghost use Rattle.model.specs.Bytes.{number, bytes, signed, complement, part, overwrite, cleared};
+ghost use Rattle.model.specs.Bytes.{number, bytes, signed, complement, part, overwrite};
 
 // The number of two bytes.
 pub fn read_u16(s: &[u8], at: usize) -> u16
@@ -111,14 +111,6 @@ pub fn fill(s: &mut [u8], at: usize, n: usize, b: u8)
         s[at + filled] = b;
         filled += 1;
     }
-}
-
-// Writes zero everywhere.
-pub fn clear(s: &mut [u8])
-    ensures { λ _. ⌜ now (s .exit) ≡ cleared (now (s .entry)) ⌝ }
-{
-    let n = s.len();
-    fill(s, 0, n, 0);
 }
 
 // Copies n bytes of src into dst.

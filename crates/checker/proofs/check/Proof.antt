@@ -3,6 +3,7 @@ use mathlib.Core.Path.{refl, ap, _∙_}
 use Prim.Native.Nat.{ℕ}
 use lib.ListN.{replicate}
 use borrow.Author.Needs.{needs}
+use Rattle.words.proofs.Memory.{overwrite-zeros}
 use Rattle.checker.proofs.Answers.{short, enough}
 use Rattle.checker.proofs.check.Statement.{statement}
 use Rattle.checker.proofs.check.Tie as tie
@@ -15,8 +16,8 @@ returns c =
 check-bytes-requires : tie.Need-check-bytes-requires
 check-bytes-requires c κs = search needs
 
-clear-requires : tie.Need-clear-requires
-clear-requires c κs = search needs
+fill-requires : tie.Need-fill-requires
+fill-requires c κs = search needs
 
 same-length : tie.Need-same-length
 same-length c = search needs
@@ -27,7 +28,7 @@ returns-2 c =
     let start = call .before .before .before .before .before .before in
     let a = start .args in
     enough (a .plan .now) (a .certificate .now) (a .work .now) _ _ (call .before .before .if1 .left) (call .check-bytes .ensures .0)
-    (c .before .before .clear .ensures ∙ ap (λ (n : ℕ). replicate n 0) (call .check-bytes .kept .1 .1 .0))
+    (c .before .before .fill .ensures ∙ overwrite-zeros (call .check-bytes .last .1 .1 .0) ∙ ap (λ (n : ℕ). replicate n 0) (call .check-bytes .kept .1 .1 .0))
 
 pub check-spec : {M : Type 1} → statement M
-check-spec = tie.close (tie.spec returns check-bytes-requires clear-requires same-length returns-2)
+check-spec = tie.close (tie.spec returns check-bytes-requires fill-requires same-length returns-2)

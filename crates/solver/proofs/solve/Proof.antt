@@ -3,6 +3,7 @@ use mathlib.Core.Path.{ap, _∙_}
 use Prim.Native.Nat.{ℕ}
 use lib.ListN.{replicate}
 use borrow.Author.Needs.{needs}
+use Rattle.words.proofs.Memory.{overwrite-zeros}
 use Rattle.solver.proofs.Answers.{short-work, short-out, enough}
 use Rattle.solver.proofs.solve.Statement.{statement}
 use Rattle.solver.proofs.solve.Tie as tie
@@ -16,8 +17,8 @@ returns-2 c = let a = c .before .before .before .before .before .args in short-o
 solve-bytes-requires : tie.Need-solve-bytes-requires
 solve-bytes-requires c κs = (c .before .before .before .if1 .left, c .before .before .if2 .left)
 
-clear-requires : tie.Need-clear-requires
-clear-requires c κs = search needs
+fill-requires : tie.Need-fill-requires
+fill-requires c κs = search needs
 
 same-length : tie.Need-same-length
 same-length c = search needs
@@ -30,9 +31,9 @@ returns-3 c =
     let call = c .before .before .before .before .before .before .before .before .solve-bytes in
     let a = c .before .before .before .before .before .before .before .before .before .before .before .before .before .before .before .before .args in
     enough (a .plan .now) (a .work .now) (a .out .now) _ _ _ (c .before .before .before .before .before .before .before .before .before .before .before .before .if1 .left) (c .before .before .before .before .before .before .before .before .before .before .before .if2 .left) (call .ensures .0)
-    (c .before .before .clear .ensures ∙ ap (λ (n : ℕ). replicate n 0) (call .kept .1 .0))
+    (c .before .before .fill .ensures ∙ overwrite-zeros (call .last .1 .0) ∙ ap (λ (n : ℕ). replicate n 0) (call .kept .1 .0))
 
 pub solve-spec : {M : Type 1} → statement M
 solve-spec =
     tie.close
-    (tie.spec returns returns-2 solve-bytes-requires clear-requires same-length same-length-2 returns-3)
+    (tie.spec returns returns-2 solve-bytes-requires fill-requires same-length same-length-2 returns-3)

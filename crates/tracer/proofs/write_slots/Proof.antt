@@ -77,8 +77,8 @@ put-slot-requires c κs =
     let l = c .before .before .before .before in
     omega (arith, entry l .pre .1, l .loop .inv .size)
 
-add-i : tie.Need-add-i Inv-loop μ-loop
-add-i c = search needs
+add-slot : tie.Need-add-slot Inv-loop μ-loop
+add-slot c = search needs
 
 loop-less : tie.Need-loop-less Inv-loop μ-loop
 loop-less c = search needs
@@ -87,7 +87,7 @@ loop-again : tie.Need-loop-again Inv-loop μ-loop
 loop-again c =
     let d = c .before .before .before .before .before in
     let l = d .before .before .before in
-    rw (add-one (l .loop .i))
+    rw (add-one (l .loop .slot))
     (reached-next _ _ _ _ _ _ (entry l .pre .1) (l .loop .inv) (d .before .before .loop-test .taken) (d .slot .result) _
     (d .slot .ensures .rule) (d .slot .ensures .cells) (c .before .before .before .put-slot .ensures) (c .before .before .before .put-slot .kept .0))
 
@@ -111,7 +111,7 @@ write-slots-spec =
     slot-requires
     mul-put-slot
     put-slot-requires
-    add-i
+    add-slot
     loop-less
     loop-again
     same-length
