@@ -1,6 +1,6 @@
 // A certificate's potentials: their limit, and the allowance.
-use node::Node;
 use certificate::Parts;
+use node::Node;
 ghost use mathlib.Core.Path.{_≡_};
 ghost use mathlib.Core.Bool.{true, cond};
 ghost use lib.Signed.{leZ};

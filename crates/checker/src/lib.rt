@@ -1,8 +1,8 @@
 // The check of a certificate against a plan: the fraction and what it allows, or the refusal of the first fault.
-use node::Node;
 use certificate::Form;
 use certificate::Parts;
 use discovery::Discovered;
+use node::Node;
 use plan::Outcome;
 use plan::Plan;
 use policy::Rules;

@@ -18,7 +18,7 @@ use Rattle.policy.specs.View.{Ruled}
 use Rattle.policy.specs.declared.Rules.{Rules}
 use Rattle.graph.specs.View.{Planned}
 use Rattle.distances.specs.declared.Prices.{Prices}
-use Rattle.links.specs.Links.{linksAt, linksSize, stepsSize, stateIn}
+use Rattle.links.specs.Links.{stateIn}
 use Rattle.words.proofs.Free.{only-refl, only-trans}
 use Rattle.distances.specs.declared.Tried.{Tried}
 use Rattle.distances.specs.Distances.{LinkOf, SearchIn, Sought, Advance, DoneBy}

@@ -1,8 +1,8 @@
 // The search for the distances of a plan's nodes at a fraction: passes over the edges, until none gives a smaller distance or a cycle is
 // found that costs less than 0.
-use node::Node;
 use links::Link;
 use links::Way;
+use node::Node;
 use policy::Rules;
 ghost use mathlib.Core.Path.{_≡_};
 ghost use mathlib.Core.Bool.{true, _||_};

@@ -2,7 +2,7 @@
 -- Assumes nothing.
 use mathlib.Core.Path.{_≡_, refl, sym, _∙_, ap, ap₂}
 use mathlib.Core.Bool.{Bool, true, false}
-use mathlib.Core.List.{List, [], _∷_, _++_, map, map-map, foldl, foldl-append, List·Memᴰ}
+use mathlib.Core.List.{List, [], _∷_, _++_, map, map-map, foldl, foldl-append}
 use Prim.Native.Nat.{ℕ, zero, suc, _+_, _-_, _/_, _%_, _^_, _<_, _≤_}
 use native.Mathlib.Nat.{add-zero, zero-add, add-assoc, div-one}
 use native.Mathlib.Numerals.{add-one}
@@ -28,7 +28,7 @@ use Rattle.masks.proofs.Groups.{groupBelow, length-table, mem-group, group-belo
 use Rattle.theory.proofs.Edges.{mem-choices}
 use Rattle.policy.specs.View.{Tasks, InRange}
 use Rattle.policy.proofs.Lists.{map-flatMap}
-use Rattle.graph.specs.Outcomes.{Outcome, note, noteRoom, notesIn, Room, Noting, tasksReleased, Released, chosenWith, outcomeIn, outcomeOf, outcomes, placed, outcomeFrom, outcomesFrom, outcomesWith, clearIn, nextOutcomes, maskOutcomes}
+use Rattle.graph.specs.Outcomes.{Outcome, note, notesIn, Room, Noting, tasksReleased, Released, chosenWith, outcomeIn, outcomeOf, outcomes, placed, outcomeFrom, outcomesFrom, outcomesWith, clearIn, nextOutcomes, maskOutcomes}
 use Rattle.graph.specs.declared.Release.{Release}
 use Rattle.graph.specs.declared.Chosen.{Chosen}
 

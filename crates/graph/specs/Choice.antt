@@ -8,7 +8,6 @@ use lib.Dec.{eqb, ltb}
 use lib.ListN.{drop}
 use Rattle.model.specs.Check.{padded}
 use Rattle.model.specs.Graph.{choices, joined, worth}
-use Rattle.model.specs.Limits.{maxWindow}
 use Rattle.model.specs.Lists.{sameNumbers, ones}
 use Rattle.model.specs.Plan.{Task}
 use Rattle.policy.specs.View.{Tasks}

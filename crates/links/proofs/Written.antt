@@ -9,14 +9,14 @@ use native.Mathlib.Nat.{add-zero}
 use native.Mathlib.Omega.{arith}
 use borrow.Author.Tests.{eq-eqb, ne-eqb}
 use lib.Dec.{eqb}
-use lib.ListN.{length, getD, set, take, drop, length-append}
-use lib.Seq.{take-at, append-snoc, drop-append-add, getD-append-add, ext-getD, getD-take, getD-drop}
+use lib.ListN.{length, getD, set, length-append}
+use lib.Seq.{take-at, append-snoc}
 use lib.Signed.{mag}
 use Rattle.model.specs.Bytes.{number, bytes, signed, complement, part, overwrite, Only}
 use Rattle.model.specs.Limits.{maxNodes, maxSteps}
 use Rattle.words.proofs.Complement.{complement-lt, signed-complement}
 use Rattle.words.proofs.Free.{only-part, overwrite-only, overwrite-within}
-use Rattle.words.proofs.Memory.{overwrite-one, overwrite-length, overwrite-inside, overwrite-outside, overwrite-frame, overwrite-join, overwrite-more, part-skip, getD-skip}
+use Rattle.words.proofs.Memory.{overwrite-one, overwrite-inside, overwrite-outside, overwrite-frame, overwrite-join, overwrite-more, part-skip, getD-skip}
 use Rattle.words.proofs.Numbers.{bytes-length, number-bytes}
 use Rattle.links.specs.Links.{linkBytes, stepBytes, linksAt, stepsAt, linksEnd, linkPlace, linkIn, stepPlace, takenIn, marked, Puts, PutsStep, linksSize, stepsSize}
 use Rattle.links.specs.declared.Link.{Link}

@@ -1,8 +1,7 @@
 // The smallest fraction of a plan, by cycles that cost less than 0 until there is none.
 use circuit::Fraction;
-use policy::Rules;
 use distances::Prices;
-ghost use mathlib.Core.Path.{_≡_};
+use policy::Rules;
 ghost use mathlib.Core.List.{List};
 ghost use Prim.Native.Nat.{ℕ, _+_, _≤_};
 ghost use lib.ListN.{length};

@@ -1,11 +1,10 @@
 // The solver: the certificate of a plan, or the refusal of the first fault.
-use node::Node;
 use discovery::Discovered;
+use node::Node;
 use plan::Outcome;
 use plan::Plan;
 use policy::Rules;
 use refusals::Refusal;
-ghost use mathlib.Core.Path.{_≡_};
 ghost use Prim.Native.Nat.{_+_, _≤_};
 ghost use lib.ListN.{length};
 ghost use Rattle.model.specs.Bytes.{Only};

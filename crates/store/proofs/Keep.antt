@@ -6,7 +6,7 @@ use native.Mathlib.Omega.{arith}
 use borrow.Author.Tests.{lt-ltb, le-ltb}
 use Rattle.store.specs.declared.Found.the-variants.{Full, At}
 use Rattle.words.proofs.Free.{only-refl}
-use Rattle.store.specs.Store.{maxRows, storeBytes, rowsIn, indexIn, Distinct, Indexed, Appended, rowsWith, foundIn, Kept}
+use Rattle.store.specs.Store.{maxRows, rowsIn, indexIn, Distinct, Indexed, Appended, rowsWith, foundIn, Kept}
 use Rattle.store.proofs.Rows.{rows-length}
 use Rattle.store.proofs.Search.{index-le, distinct-snoc}
 

@@ -12,7 +12,6 @@ use native.Mathlib.Omega.{arith}
 use lib.Dec.{T, leb, eqb, leb→le, eqb→eq, T-not, not-T}
 use lib.ListN.{length, getD, length-map, List·getD-eq-default}
 use borrow.Author.Tests.{le-leb, eq-eqb}
-use Rattle.model.specs.Limits.{maxWindow}
 use Rattle.model.specs.Lists.{bit, one, sum, upFrom}
 use Rattle.model.specs.Plan.{Task, Plan, nextIn, IsSound, readPlan, sound}
 use Rattle.model.specs.Slot.{noTask, taskOf}

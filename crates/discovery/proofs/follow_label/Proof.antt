@@ -1,5 +1,5 @@
 -- `discovery::follow_label` meets its contract, by whether the label is admitted. Assumes nothing.
-use mathlib.Core.Path.{refl, sym, ap, _∙_}
+use mathlib.Core.Path.{sym, ap, _∙_}
 use mathlib.Core.List.{[]}
 use mathlib.Core.Option.{some}
 use Prim.Native.Nat.{_-_, _<_}

@@ -2,7 +2,7 @@
 use mathlib.Core.Path.{_≡_, refl, _∙_}
 use Prim.Native.Nat.{_-_, _<_, _≤_}
 use native.Mathlib.Omega.{arith}
-use lib.ListN.{length, drop}
+use lib.ListN.{length}
 use Rattle.words.proofs.Free.{only-refl, only-trans}
 use Rattle.model.specs.Plan.{Plan}
 use Rattle.graph.specs.Outcomes.{NotesFree}

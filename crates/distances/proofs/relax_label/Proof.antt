@@ -1,5 +1,4 @@
 -- `distances::relax_label` meets its contract, by whether the label is admitted. Assumes nothing.
-use mathlib.Core.Path.{refl}
 use Prim.Native.Nat.{_<_}
 use native.Mathlib.Omega.{arith}
 use borrow.Author.Needs.{needs}

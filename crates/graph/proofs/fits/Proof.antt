@@ -2,11 +2,8 @@
 -- Assumes nothing.
 use mathlib.Core.Path.{sym, ap, _∙_}
 use Prim.Native.Nat.{_^_, _<_}
-use native.Mathlib.Omega.{arith}
-use lib.Pow.{pow-mono}
 use borrow.Author.Needs.{needs}
 use borrow.Author.Tests.{not-true, not-false}
-use Rattle.model.specs.Limits.{maxWindow}
 use Rattle.plan.specs.View.{taskView}
 use Rattle.graph.specs.Choice.{fitsTask}
 use Rattle.graph.proofs.Search.{ones-counted, within, beyond, fits-zero, fits-idle, fits-beyond, fits-other, fits-work}
