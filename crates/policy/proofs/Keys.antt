@@ -78,7 +78,7 @@ origins : (a b : ℕ) → a ≤ maxWindow → b ≤ maxWindow → (longAgo - a) 
 origins a b h h′ = omega arith
 
 -- a job's release slot from its cell
-pub released : (ts : Tasks) (k w : ℕ) → 0 < leftIn ts k → releaseSlot ts (jobIn ts k w) ≡ longAgo - ageIn k
+released : (ts : Tasks) (k w : ℕ) → 0 < leftIn ts k → releaseSlot ts (jobIn ts k w) ≡ longAgo - ageIn k
 released ts k w h = omega (arith, ap (λ (t : Task). t .window) (task-number ts k))
 
 module _ (ts : Tasks) (policy k i w w′ : ℕ) (lt : i < k) (hk : k < places) (lk : leftIn ts k ≤ maxWindow) (li : leftIn ts i ≤ maxWindow)

@@ -3,7 +3,6 @@ pub mod Cells
 pub mod NewJobs
 pub mod Keys
 pub mod Rule
-pub mod Rising
 pub mod Canonical
 pub mod Gain
 pub mod Plans

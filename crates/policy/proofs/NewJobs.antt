@@ -22,13 +22,13 @@ use Rattle.policy.proofs.Lists.{flatMap-same, flatMap-none, flatMap-shi
 use Rattle.policy.proofs.Cells.{FitCell, leaves-same, jobs-sized, cells-sized, work-within}
 
 -- the new jobs of the task at j, where the tasks are numbered from i
-abbrev pub newIn : Tasks → ℕ → ℕ → ℕ → List Job
+abbrev newIn : Tasks → ℕ → ℕ → ℕ → List Job
 newIn ts l i j = consIf (ltb 0 (newWork ts l j)) (record { task = i + j; work = newWork ts l j; left = getD ts j noTask .window }) []
 
 bit-next : (l j : ℕ) → bit l (j + 1) ≡ bit (l / 2) j
 bit-next l j = ap (λ n. eqb (n % 2) 1) (ap (λ k. l / 2 ^ k) (add-comm j 1) ∙ sym (shr-shr l 1 j))
 
-pub new-jobs : (ts : Tasks) (l i m : ℕ) → length ts ≤ m → ((j : ℕ) → j < length ts → 1 ≤ getD ts j noTask .work)
+new-jobs : (ts : Tasks) (l i m : ℕ) → length ts ≤ m → ((j : ℕ) → j < length ts → 1 ≤ getD ts j noTask .work)
     → newJobs ts l i ≡ flatMap (newIn ts l i) (upFrom 0 m)
 new-jobs [] l i m h w = sym (flatMap-none (newIn [] l i) (upFrom 0 m) (λ j _. none (λ b. record { task = i + j; work = cond b 0 0; left = 0 }) (bit l j)))
   where
