@@ -15,7 +15,7 @@ use Rattle.model.specs.Lists.{consIf, keep, flatMap, upFrom}
 use Rattle.model.specs.Plan.{Task}
 use Rattle.model.specs.Slot.{Job, noTask, canFinish, worked, tick, stays}
 use Rattle.model.proofs.Lists.{flatMap-append, getD-table, mem-of-upFrom, upFrom-append}
-use Rattle.policy.specs.View.{Tasks, cellCount, slotCells, taskIn, taskAt, leftIn, leftTable, jobIn, jobsIn, jobsOf, InRange, TasksInRange, Cells, Leaves, hopeful, workedIn, aged}
+use Rattle.policy.specs.View.{Tasks, cellCount, slotCells, taskIn, taskAt, leftIn, leftTable, jobIn, jobsIn, jobsOf, InRange, TasksInRange, Cells, Leaves, hopefulIn, hopeful, workedIn, stayingIn, aged}
 use Rattle.policy.proofs.Lists.{flatMap-same, flatMap-none, keep-flatMap, map-flatMap, flatMap-shift, map-shift, length-table}
 
 -- ---- ranges
@@ -102,27 +102,23 @@ hopeful-cell ts k w = go (ltb 0 w) (leb w (leftIn ts k)) refl refl
     go false false p q = refl
 
 module _ (ts : Tasks) (left : List ℕ) (e : left ≡ leftTable ts) (cells : List ℕ) (h : Cells ts slotCells cells) where
-  hopefulIn : ℕ → ℕ
-  hopefulIn k = cond (leb (getD cells k 0) (getD left k 0)) (getD cells k 0) 0
-
-  hopeful-in : (k : ℕ) → k < slotCells → jobsIn ts k (hopefulIn k) ≡ keep canFinish (jobsIn ts k (getD cells k 0))
-  unfolding hopefulIn
+  hopeful-in : (k : ℕ) → k < slotCells → jobsIn ts k (hopefulIn cells left k) ≡ keep canFinish (jobsIn ts k (getD cells k 0))
   hopeful-in k lt =
       ap (λ l. jobsIn ts k (cond (leb (getD cells k 0) l) (getD cells k 0) 0)) (left-entry ts left e k lt)
       ∙ sym (hopeful-cell ts k (getD cells k 0))
 
   hopeful-jobs : jobsOf ts (hopeful cells left) ≡ keep canFinish (jobsOf ts cells)
-  unfolding hopeful hopefulIn
+  unfolding hopeful
   hopeful-jobs =
-      jobs-table ts hopefulIn slotCells
-      ∙ flatMap-same (λ k. jobsIn ts k (hopefulIn k)) (λ k. keep canFinish (jobsIn ts k (getD cells k 0))) (upFrom 0 slotCells)
+      jobs-table ts (hopefulIn cells left) slotCells
+      ∙ flatMap-same (λ k. jobsIn ts k (hopefulIn cells left k)) (λ k. keep canFinish (jobsIn ts k (getD cells k 0))) (upFrom 0 slotCells)
       (λ k m. hopeful-in k (omega (arith, mem-of-upFrom 0 slotCells m)))
       ∙ sym (keep-flatMap canFinish (λ k. jobsIn ts k (getD cells k 0)) (upFrom 0 slotCells))
       ∙ ap (keep canFinish) (sym (jobs-sized ts slotCells cells (h .size)))
 
   hopeful-cells : Cells ts slotCells (hopeful cells left)
-  unfolding hopeful hopefulIn
-  hopeful-cells = cells-table ts hopefulIn slotCells (λ k lt. go k (leb (getD cells k 0) (getD left k 0)))
+  unfolding hopeful
+  hopeful-cells = cells-table ts (hopefulIn cells left) slotCells (λ k lt. go k (leb (getD cells k 0) (getD left k 0)))
     where
       go : (k : ℕ) (b : Bool) → FitCell ts k (cond b (getD cells k 0) 0)
       go k true = (h .work k, h .left k)
@@ -166,14 +162,14 @@ aged-first ts k w r h = go (ltb 0 w)
 
 module _ (ts : Tasks) (r : TasksInRange ts) (left : List ℕ) (e : left ≡ leftTable ts) (cells : List ℕ) (h : Cells ts slotCells cells) where
   agedIn : ℕ → ℕ
-  agedIn k = cond (ltb 1 (getD left (k + maxTasks) 0)) (getD cells (k + maxTasks) 0) 0
+  agedIn k = stayingIn cells left (k + maxTasks)
 
   after : ℕ → List Job
   after k = keep stays (map tick (jobsIn ts k (getD cells k 0)))
 
   aged-table : aged cells left ≡ map agedIn (upFrom 0 cellCount)
   unfolding aged agedIn
-  aged-table = map-shift (λ k. cond (ltb 1 (getD left k 0)) (getD cells k 0) 0) 0 maxTasks cellCount
+  aged-table = map-shift (stayingIn cells left) 0 maxTasks cellCount
 
   aged-in : (k : ℕ) → k < cellCount → jobsIn ts k (agedIn k) ≡ after (k + maxTasks)
   unfolding agedIn after

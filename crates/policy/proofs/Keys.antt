@@ -17,7 +17,7 @@ use Rattle.model.specs.Lists.{consIf, flatMap, upFrom}
 use Rattle.model.specs.Plan.{Task}
 use Rattle.model.specs.Slot.{Job, noTask, taskOf, releaseSlot, longAgo, edf, srt, fifo, key, keyBelow, sooner, first}
 use Rattle.model.proofs.Lists.{flatMap-append, upFrom-append}
-use Rattle.policy.specs.View.{Tasks, slotCells, taskIn, taskAt, ageIn, leftIn, leftTable, jobIn, jobsIn, jobsOf, TasksInRange, Cells, keyNumber, keyIn, codeIn, leastCode, cellOf, firstCell, places, noCode}
+use Rattle.policy.specs.View.{Tasks, slotCells, taskIn, taskAt, ageIn, leftIn, leftTable, jobIn, jobsIn, jobsOf, TasksInRange, Cells, keyNumber, keyIn, codeIn, codeAt, leastCode, cellOf, firstCell, places, noCode}
 use Rattle.policy.proofs.Cells.{jobs-sized, window-low, work-within, left-entry}
 
 -- keys' first parts as digits above what is left
@@ -194,31 +194,30 @@ module _ (ts : Tasks) (policy : ℕ) (r : TasksInRange ts) (left : List ℕ) (e 
   firstTo : ℕ → Option Job
   firstTo n = foldl (sooner (key ts policy)) none (upTo n)
 
-  -- the code of any cell
-  codeAt : ℕ → ℕ
-  codeAt k = codeIn policy k (getD cells k 0) (getD left k 0)
+  codes : ℕ → ℕ
+  codes = codeAt policy cells left
 
-  code-none : (k : ℕ) → ltb 0 (getD cells k 0) ≡ false → codeAt k ≡ noCode
-  unfolding codeAt codeIn
+  code-none : (k : ℕ) → ltb 0 (getD cells k 0) ≡ false → codes k ≡ noCode
+  unfolding codes codeIn
   code-none k c = rw (eq-eqb (getD cells k 0) 0 (omega (arith, ltb-false 0 (getD cells k 0) c)))
 
-  code-some : (k : ℕ) → k < slotCells → ltb 0 (getD cells k 0) ≡ true → codeAt k ≡ code k
-  unfolding codeAt codeIn code
+  code-some : (k : ℕ) → k < slotCells → ltb 0 (getD cells k 0) ≡ true → codes k ≡ code k
+  unfolding codes codeIn code
   code-some k lt c =
       rw (ne-eqb (getD cells k 0) 0 (λ z. absurd (omega (arith, ltb-true 0 (getD cells k 0) c))), left-entry ts left e k lt)
 
-  best-to : (n : ℕ) → n ≤ slotCells → Best n (leastCode codeAt n) (firstTo n)
+  best-to : (n : ℕ) → n ≤ slotCells → Best n (leastCode codes n) (firstTo n)
   unfolding Best firstTo upTo leastCode job
   best-to zero le = inl (refl, refl)
   best-to (suc n) le =
-      subst (Best (suc n) (leastCode codeAt (suc n)))
+      subst (Best (suc n) (leastCode codes (suc n)))
       (sym (ap (foldl (sooner (key ts policy)) none) (up-suc n) ∙ foldl-append (sooner (key ts policy)) none (upTo n) (jobsIn ts n (getD cells n 0))))
       (go (ltb 0 (getD cells n 0)) refl (best-to n (omega arith)))
     where
-      go : (b : Bool) → ltb 0 (getD cells n 0) ≡ b → Best n (leastCode codeAt n) (firstTo n)
-          → Best (suc n) (cond (ltb (codeAt n) (leastCode codeAt n)) (codeAt n) (leastCode codeAt n)) (foldl (sooner (key ts policy)) (firstTo n) (consIf b (job n) []))
-      go true c s = rw (code-some n le c) (best-some n (leastCode codeAt n) (firstTo n) le (ltb-true 0 (getD cells n 0) c) s)
-      go false c s = rw (code-none n c) (best-none n (leastCode codeAt n) (firstTo n) le s)
+      go : (b : Bool) → ltb 0 (getD cells n 0) ≡ b → Best n (leastCode codes n) (firstTo n)
+          → Best (suc n) (cond (ltb (codes n) (leastCode codes n)) (codes n) (leastCode codes n)) (foldl (sooner (key ts policy)) (firstTo n) (consIf b (job n) []))
+      go true c s = rw (code-some n le c) (best-some n (leastCode codes n) (firstTo n) le (ltb-true 0 (getD cells n 0) c) s)
+      go false c s = rw (code-none n c) (best-none n (leastCode codes n) (firstTo n) le s)
 
   -- what the least code says of the first job
   told : (best : ℕ) → Best slotCells best (first (key ts policy) (jobsOf ts cells)) → Chosen ts policy cells (cellOf best)
@@ -231,9 +230,9 @@ module _ (ts : Tasks) (policy : ℕ) (r : TasksInRange ts) (left : List ℕ) (e 
       (record { bound = omega arith; choice = rw (lt-ltb i slotCells lt) (sym f); work = λ _. p })
 
   pub first-cell : {at : ℕ} → at ≡ firstCell policy cells left → Chosen ts policy cells at
-  unfolding first firstTo upTo codeAt firstCell
+  unfolding first firstTo upTo codes firstCell
   first-cell is =
       subst (Chosen ts policy cells) (sym is)
-      (told (leastCode codeAt slotCells)
-      (subst (Best slotCells (leastCode codeAt slotCells)) (ap (foldl (sooner (key ts policy)) none) (sym (jobs-sized ts slotCells cells (h .size))))
+      (told (leastCode codes slotCells)
+      (subst (Best slotCells (leastCode codes slotCells)) (ap (foldl (sooner (key ts policy)) none) (sym (jobs-sized ts slotCells cells (h .size))))
       (best-to slotCells (le-refl slotCells))))

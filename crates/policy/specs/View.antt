@@ -83,9 +83,12 @@ newWork ts l i = cond (bit l i) (getD ts i noTask .work) 0
 unfoldable pub joined : Tasks → List ℕ → ℕ → List ℕ
 joined ts cells l = cells ++ map (newWork ts l) (upFrom 0 maxTasks)
 
--- 2. "Each job with more work remaining than slots left is dropped": a cell keeps work up to its slots left.
+-- 2. "Each job with more work remaining than slots left is dropped."
+abbrev pub hopefulIn : List ℕ → List ℕ → ℕ → ℕ
+hopefulIn cells left k = cond (leb (getD cells k 0) (getD left k 0)) (getD cells k 0) 0
+
 unfoldable pub hopeful : List ℕ → List ℕ → List ℕ
-hopeful cells left = map (λ k. cond (leb (getD cells k 0) (getD left k 0)) (getD cells k 0) 0) (upFrom 0 slotCells)
+hopeful cells left = map (hopefulIn cells left) (upFrom 0 slotCells)
 
 -- the policies' keys, each as one number that orders as the key does
 abbrev pub keyNumber : ℕ → ℕ → ℕ → ℕ
@@ -108,6 +111,9 @@ noCode = 4294967295
 unfoldable pub codeIn : ℕ → ℕ → ℕ → ℕ → ℕ
 codeIn policy k work left = cond (eqb work 0) noCode (keyIn policy k work left * places + k)
 
+abbrev pub codeAt : ℕ → List ℕ → List ℕ → ℕ → ℕ
+codeAt policy cells left k = codeIn policy k (getD cells k 0) (getD left k 0)
+
 -- the least of f 0 to f (n − 1), noCode where there is none
 unfoldable pub leastCode : (ℕ → ℕ) → ℕ → ℕ
 leastCode f zero = noCode
@@ -119,15 +125,18 @@ cellOf code = cond (eqb code noCode) slotCells (code % places)
 
 -- 3. "the first by the policy's key": the cell of the least code, slotCells where there is no job.
 unfoldable pub firstCell : ℕ → List ℕ → List ℕ → ℕ
-firstCell policy cells left = cellOf (leastCode (λ k. codeIn policy k (getD cells k 0) (getD left k 0)) slotCells)
+firstCell policy cells left = cellOf (leastCode (codeAt policy cells left) slotCells)
 
 -- 3. It "runs one slot. Work falls by 1."
 abbrev pub workedIn : List ℕ → ℕ → List ℕ
 workedIn cells at = set cells at (getD cells at 0 - 1)
 
 -- 4. "Slots left falls by 1 ..; at 0 the job goes": the cells from the second row on, where more than one slot is left.
+abbrev pub stayingIn : List ℕ → List ℕ → ℕ → ℕ
+stayingIn cells left k = cond (ltb 1 (getD left k 0)) (getD cells k 0) 0
+
 unfoldable pub aged : List ℕ → List ℕ → List ℕ
-aged cells left = map (λ k. cond (ltb 1 (getD left k 0)) (getD cells k 0) 0) (upFrom maxTasks cellCount)
+aged cells left = map (stayingIn cells left) (upFrom maxTasks cellCount)
 
 -- the tasks of the rules, and the slots left by them
 abbrev pub tasksIn : Rules → Tasks

@@ -1,28 +1,21 @@
 -- `policy::age` meets its contract: the loop writes the cells from the front.
 -- Assumes nothing.
 use mathlib.Core.Path.{_≡_, refl, sym}
-use mathlib.Core.Bool.{cond}
-use mathlib.Core.List.{List, map}
-use Prim.Native.Nat.{ℕ, _+_, _-_, _≤_}
-use lib.Dec.{ltb}
-use lib.ListN.{getD}
+use mathlib.Core.List.{map}
+use Prim.Native.Nat.{_+_, _-_, _≤_}
 use Rattle.model.specs.Bytes.{overwrite}
 use Rattle.model.specs.Limits.{maxTasks}
 use Rattle.model.specs.Lists.{upFrom}
 use Rattle.words.proofs.Memory.{overwrite-none}
-use Rattle.policy.specs.View.{cellCount, aged}
+use Rattle.policy.specs.View.{cellCount, stayingIn, aged}
 use Rattle.policy.proofs.Lists.{written-more, written-all}
 use borrow.Author.Needs.{needs}
 use native.Mathlib.Omega.{arith}
 use Rattle.policy.proofs.age.Statement.{statement}
 use Rattle.policy.proofs.age.Tie as tie
 
--- what the loop stores
-abbrev stored : List ℕ → List ℕ → ℕ → ℕ
-stored cells left k = cond (ltb 1 (getD left k 0)) (getD cells k 0) 0
-
 abbrev Inv-loop : tie.InvT-loop
-Inv-loop cells left older₀ k₀ older k = (k ≤ cellCount) × (older ≡ overwrite older₀ 0 (map (stored cells left) (upFrom maxTasks k)))
+Inv-loop cells left older₀ k₀ older k = (k ≤ cellCount) × (older ≡ overwrite older₀ 0 (map (stayingIn cells left) (upFrom maxTasks k)))
 
 abbrev μ-loop : tie.MeasureT-loop
 μ-loop cells left older₀ k₀ older k = cellCount - k
@@ -60,7 +53,7 @@ loop-again c =
     let a = turn .before .before .args in
     let k = turn .before .loop .k in (
       omega arith,
-      written-more (stored (a .cells .now) (a .left .now)) maxTasks _ 0 k k (maxTasks + k) (omega arith) refl (turn .loop-test .taken) (c .if-staying .ensures) (turn .before .loop .inv .1),
+      written-more (stayingIn (a .cells .now) (a .left .now)) maxTasks _ 0 k k (maxTasks + k) (omega arith) refl (turn .loop-test .taken) (c .if-staying .ensures) (turn .before .loop .inv .1),
     )
 
 returns : tie.Need-returns Inv-loop μ-loop
@@ -68,7 +61,7 @@ unfolding aged
 returns c =
     let head = c .before in
     let a = head .before .args in
-    written-all (stored (a .cells .now) (a .left .now)) maxTasks _ (head .loop .k) cellCount (omega arith) refl (head .loop .inv .1)
+    written-all (stayingIn (a .cells .now) (a .left .now)) maxTasks _ (head .loop .k) cellCount (omega arith) refl (head .loop .inv .1)
 
 pub age-spec : {M : Type 1} → statement M
 age-spec =

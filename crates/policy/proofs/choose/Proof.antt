@@ -1,25 +1,19 @@
 -- `policy::choose` meets its contract: the loop finds the least code.
 -- Assumes nothing.
 use mathlib.Core.Path.{_≡_, refl, sym, ap, ap₂, _∙_}
-use mathlib.Core.List.{List}
 use mathlib.Core.Bool.{cond}
 use Prim.Native.Nat.{ℕ, _-_, _%_, _≤_}
 use native.Mathlib.Numerals.{add-one}
 use borrow.Author.Tests.{eq-eqb, ne-eqb}
 use lib.Dec.{ltb}
-use lib.ListN.{getD}
-use Rattle.policy.specs.View.{slotCells, places, noCode, codeIn, leastCode, cellOf, firstCell}
+use Rattle.policy.specs.View.{slotCells, places, noCode, codeAt, leastCode, cellOf, firstCell}
 use borrow.Author.Needs.{needs}
 use native.Mathlib.Omega.{arith}
 use Rattle.policy.proofs.choose.Statement.{statement}
 use Rattle.policy.proofs.choose.Tie as tie
 
--- the codes of the cells
-abbrev codeBy : ℕ → List ℕ → List ℕ → ℕ → ℕ
-codeBy policy cells left k = codeIn policy k (getD cells k 0) (getD left k 0)
-
 abbrev Inv-loop : tie.InvT-loop
-Inv-loop policy cells left best₀ k₀ best k = (k ≤ slotCells) × (best ≡ leastCode (codeBy policy cells left) k)
+Inv-loop policy cells left best₀ k₀ best k = (k ≤ slotCells) × (best ≡ leastCode (codeAt policy cells left) k)
 
 abbrev μ-loop : tie.MeasureT-loop
 μ-loop policy cells left best₀ k₀ best k = slotCells - k
@@ -35,8 +29,7 @@ element-copy-out-code-of-2 : tie.Need-element-copy-out-code-of-2 Inv-loop μ-loo
 element-copy-out-code-of-2 c = omega arith
 
 code-of-requires : tie.Need-code-of-requires Inv-loop μ-loop
-code-of-requires c κs =
-    c .before .before .loop-test .taken
+code-of-requires c κs = c .before .before .loop-test .taken
 
 least-requires : tie.Need-least-requires Inv-loop μ-loop
 least-requires c κs = search needs
@@ -53,17 +46,17 @@ loop-again c =
     let head = c .before .before .before .before .before in (
       omega arith,
       c .least .ensures ∙ ap₂ (λ (b a : ℕ). cond (ltb b a) b a) (c .before .code-of .ensures) (head .loop .inv .1)
-          ∙ ap (leastCode (codeBy (head .before .args .policy) (head .before .args .cells .now) (head .before .args .left .now))) (sym (add-one (head .loop .k))),
+          ∙ ap (leastCode (codeAt (head .before .args .policy) (head .before .args .cells .now) (head .before .args .left .now))) (sym (add-one (head .loop .k))),
     )
 
 -- the loop's code is the least of all
 all : (c : tie.After-loop Inv-loop μ-loop) →
     let a = c .before .before .args in
-    c .before .loop .best ≡ leastCode (codeBy (a .policy) (a .cells .now) (a .left .now)) slotCells
+    c .before .loop .best ≡ leastCode (codeAt (a .policy) (a .cells .now) (a .left .now)) slotCells
 all c =
     let a = c .before .before .args in
     let end : c .before .loop .k ≡ slotCells = omega arith in
-    c .before .loop .inv .1 ∙ ap (leastCode (codeBy (a .policy) (a .cells .now) (a .left .now))) end
+    c .before .loop .inv .1 ∙ ap (leastCode (codeAt (a .policy) (a .cells .now) (a .left .now))) end
 
 returns : tie.Need-returns Inv-loop μ-loop
 unfolding firstCell

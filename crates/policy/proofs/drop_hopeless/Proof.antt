@@ -1,27 +1,20 @@
 -- `policy::drop_hopeless` meets its contract: the loop writes the cells from the front.
 -- Assumes nothing.
 use mathlib.Core.Path.{_≡_, refl, sym}
-use mathlib.Core.Bool.{cond}
-use mathlib.Core.List.{List, map}
-use Prim.Native.Nat.{ℕ, _-_, _≤_}
-use lib.Dec.{leb}
-use lib.ListN.{getD}
+use mathlib.Core.List.{map}
+use Prim.Native.Nat.{_-_, _≤_}
 use Rattle.model.specs.Bytes.{overwrite}
 use Rattle.model.specs.Lists.{upFrom}
 use Rattle.words.proofs.Memory.{overwrite-none}
-use Rattle.policy.specs.View.{slotCells, hopeful}
+use Rattle.policy.specs.View.{slotCells, hopefulIn, hopeful}
 use Rattle.policy.proofs.Lists.{written-more, written-all}
 use borrow.Author.Needs.{needs}
 use native.Mathlib.Omega.{arith}
 use Rattle.policy.proofs.drop_hopeless.Statement.{statement}
 use Rattle.policy.proofs.drop_hopeless.Tie as tie
 
--- what the loop stores
-abbrev stored : List ℕ → List ℕ → ℕ → ℕ
-stored cells left k = cond (leb (getD cells k 0) (getD left k 0)) (getD cells k 0) 0
-
 abbrev Inv-loop : tie.InvT-loop
-Inv-loop cells left kept₀ k₀ kept k = (k ≤ slotCells) × (kept ≡ overwrite kept₀ 0 (map (stored cells left) (upFrom 0 k)))
+Inv-loop cells left kept₀ k₀ kept k = (k ≤ slotCells) × (kept ≡ overwrite kept₀ 0 (map (hopefulIn cells left) (upFrom 0 k)))
 
 abbrev μ-loop : tie.MeasureT-loop
 μ-loop cells left kept₀ k₀ kept k = slotCells - k
@@ -53,7 +46,7 @@ loop-again c =
     let a = turn .before .before .args in
     let k = turn .before .loop .k in (
       omega arith,
-      written-more (stored (a .cells .now) (a .left .now)) 0 _ 0 k k k (omega arith) (omega arith) (turn .loop-test .taken) (c .if-hopeful .ensures) (turn .before .loop .inv .1),
+      written-more (hopefulIn (a .cells .now) (a .left .now)) 0 _ 0 k k k (omega arith) (omega arith) (turn .loop-test .taken) (c .if-hopeful .ensures) (turn .before .loop .inv .1),
     )
 
 returns : tie.Need-returns Inv-loop μ-loop
@@ -61,7 +54,7 @@ unfolding hopeful
 returns c =
     let head = c .before in
     let a = head .before .args in
-    written-all (stored (a .cells .now) (a .left .now)) 0 _ (head .loop .k) slotCells (omega arith) refl (head .loop .inv .1)
+    written-all (hopefulIn (a .cells .now) (a .left .now)) 0 _ (head .loop .k) slotCells (omega arith) refl (head .loop .inv .1)
 
 pub drop-hopeless-spec : {M : Type 1} → statement M
 drop-hopeless-spec =
