@@ -8,20 +8,20 @@ use Prim.Native.Nat.{ℕ, zero, suc, _+_, _-_, _%_, _≤_, _<_}
 use native.Mathlib.Omega.{arith}
 use borrow.Author.Tests.{lt-ltb, le-ltb, ltb-true, ltb-false, eq-eqb, eqb-true, eqb-false}
 use lib.Dec.{leb, ltb, eqb}
-use lib.ListN.{length, getD, set, length-set, replicate, length-replicate, getD-replicate, List·getD-eq-default}
+use lib.ListN.{length, getD, length-set, replicate, length-replicate, getD-replicate, List·getD-eq-default}
 use lib.Seq.{getD-set-same, getD-set-other}
 use Rattle.model.specs.Limits.{maxTasks, maxWindow}
 use Rattle.model.specs.Lists.{consIf, keep, flatMap, upFrom}
 use Rattle.model.specs.Plan.{Task}
 use Rattle.model.specs.Slot.{Job, noTask, canFinish, worked, tick, stays}
 use Rattle.model.proofs.Lists.{flatMap-append, getD-table, mem-of-upFrom, upFrom-append}
-use Rattle.policy.specs.View.{Tasks, cellCount, slotCells, taskIn, taskAt, leftIn, jobIn, jobsIn, jobsOf, hasWork, InRange, TasksInRange, Cells}
-use Rattle.policy.proofs.Lists.{flatMap-same, flatMap-none, keep-flatMap, map-flatMap, flatMap-shift, length-table}
+use Rattle.policy.specs.View.{Tasks, cellCount, slotCells, taskIn, taskAt, leftIn, leftTable, jobIn, jobsIn, jobsOf, InRange, TasksInRange, Cells, Leaves, hopefulIn, hopeful, workedIn, stayingIn, aged}
+use Rattle.policy.proofs.Lists.{flatMap-same, flatMap-none, keep-flatMap, map-flatMap, flatMap-shift, map-shift, length-table}
 
 -- ---- ranges
 
 -- a task is there and in range, or has no work and no window
-pub task-cases : (ts : Tasks) → TasksInRange ts → (i : ℕ) → ((i < length ts) × InRange (getD ts i noTask)) ⊎ (getD ts i noTask ≡ noTask)
+task-cases : (ts : Tasks) → TasksInRange ts → (i : ℕ) → ((i < length ts) × InRange (getD ts i noTask)) ⊎ (getD ts i noTask ≡ noTask)
 task-cases ts r i = go (ltb i (length ts)) refl
   where
     go : (b : Bool) → ltb i (length ts) ≡ b → ((i < length ts) × InRange (getD ts i noTask)) ⊎ (getD ts i noTask ≡ noTask)
@@ -41,27 +41,39 @@ pub jobs-sized : (ts : Tasks) (n : ℕ) (cells : List ℕ) → length cells ≡ 
 unfolding jobsOf
 jobs-sized ts n cells e = ap (λ m. flatMap (λ k. jobsIn ts k (getD cells k 0)) (upFrom 0 m)) e
 
-pub jobs-table : (ts : Tasks) (f : ℕ → ℕ) (n : ℕ) → jobsOf ts (map f (upFrom 0 n)) ≡ flatMap (λ k. jobsIn ts k (f k)) (upFrom 0 n)
+jobs-table : (ts : Tasks) (f : ℕ → ℕ) (n : ℕ) → jobsOf ts (map f (upFrom 0 n)) ≡ flatMap (λ k. jobsIn ts k (f k)) (upFrom 0 n)
 jobs-table ts f n =
     jobs-sized ts n (map f (upFrom 0 n)) (length-table f n)
     ∙ flatMap-same (λ k. jobsIn ts k (getD (map f (upFrom 0 n)) k 0)) (λ k. jobsIn ts k (f k)) (upFrom 0 n)
     (λ k m. ap (jobsIn ts k) (getD-table f n k 0 (omega (arith, mem-of-upFrom 0 n m))))
 
--- a table's cells, from what holds of each
-pub cells-table : (ts : Tasks) (f : ℕ → ℕ) (n : ℕ) → ((k : ℕ) → k < n → (f k ≤ taskAt ts k .work) × (0 < f k → 0 < leftIn ts k)) → Cells ts n (map f (upFrom 0 n))
-cells-table ts f n h = record { size = length-table f n; work = λ k. both k .0; left = λ k. both k .1 }
+pub leaves-same : {ts : Tasks} {js : List Job} {n : ℕ} {after cells : List ℕ} → after ≡ cells → jobsOf ts cells ≡ js → Cells ts n cells → Leaves ts js n after
+leaves-same {ts} {js} {n} is jobs fit = subst (Leaves ts js n) (sym is) (record { jobs = jobs; cells = fit })
+
+-- what holds of each cell that a node can hold, and the cells from it
+abbrev pub FitCell : Tasks → ℕ → ℕ → Type 0
+FitCell ts k w = (w ≤ taskAt ts k .work) × (0 < w → 0 < leftIn ts k)
+
+pub cells-sized : (ts : Tasks) (n : ℕ) (cells : List ℕ) → length cells ≡ n → ((k : ℕ) → k < n → FitCell ts k (getD cells k 0)) → Cells ts n cells
+cells-sized ts n cells e h = record { size = e; work = λ k. both k .0; left = λ k. both k .1 }
   where
-    Fine : ℕ → ℕ → Type 0
-    Fine k w = (w ≤ taskAt ts k .work) × (0 < w → 0 < leftIn ts k)
+    go : (k : ℕ) (b : Bool) → ltb k n ≡ b → FitCell ts k (getD cells k 0)
+    go k true lt = h k (ltb-true k n lt)
+    go k false le =
+        let none : getD cells k 0 ≡ 0 = List·getD-eq-default cells 0 (omega (arith, ltb-false k n le)) in
+        (omega arith, λ p. absurd (omega arith))
 
-    go : (k : ℕ) (b : Bool) → ltb k n ≡ b → Fine k (getD (map f (upFrom 0 n)) k 0)
-    go k true e = subst (Fine k) (sym (getD-table f n k 0 (ltb-true _ _ e))) (h k (ltb-true _ _ e))
-    go k false e =
-        subst (Fine k) (sym (List·getD-eq-default (map f (upFrom 0 n)) 0 (omega (arith, ltb-false k n e, length-table f n))))
-        (omega arith, λ lt. absurd (omega arith))
-
-    both : (k : ℕ) → Fine k (getD (map f (upFrom 0 n)) k 0)
+    both : (k : ℕ) → FitCell ts k (getD cells k 0)
     both k = go k (ltb k n) refl
+
+cells-table : (ts : Tasks) (f : ℕ → ℕ) (n : ℕ) → ((k : ℕ) → k < n → FitCell ts k (f k)) → Cells ts n (map f (upFrom 0 n))
+cells-table ts f n h =
+    cells-sized ts n (map f (upFrom 0 n)) (length-table f n)
+    (λ k lt. subst (FitCell ts k) (sym (getD-table f n k 0 lt)) (h k lt))
+
+-- the slots left in a cell by the table
+pub left-entry : (ts : Tasks) (left : List ℕ) → left ≡ leftTable ts → (k : ℕ) → k < slotCells → getD left k 0 ≡ leftIn ts k
+left-entry ts left e k lt = ap (λ l. getD l k 0) e ∙ getD-table (leftIn ts) slotCells k 0 lt
 
 -- cells of no jobs
 pub empty-jobs : (ts : Tasks) (n : ℕ) → jobsOf ts (replicate n 0) ≡ []
@@ -80,9 +92,6 @@ empty-cells ts n = record { size = length-replicate n 0; work = λ k. omega (ari
 
 -- ---- 2. jobs that can finish
 
-abbrev pub hopeful : Tasks → List ℕ → ℕ → ℕ
-hopeful ts cells k = cond (leb (getD cells k 0) (leftIn ts k)) (getD cells k 0) 0
-
 hopeful-cell : (ts : Tasks) (k w : ℕ) → keep canFinish (jobsIn ts k w) ≡ jobsIn ts k (cond (leb w (leftIn ts k)) w 0)
 hopeful-cell ts k w = go (ltb 0 w) (leb w (leftIn ts k)) refl refl
   where
@@ -92,24 +101,33 @@ hopeful-cell ts k w = go (ltb 0 w) (leb w (leftIn ts k)) refl refl
     go false true p q = rw p
     go false false p q = refl
 
-pub hopeful-jobs : (ts : Tasks) (n : ℕ) (cells : List ℕ) → length cells ≡ n → jobsOf ts (map (hopeful ts cells) (upFrom 0 n)) ≡ keep canFinish (jobsOf ts cells)
-hopeful-jobs ts n cells e =
-    jobs-table ts (hopeful ts cells) n
-    ∙ flatMap-same (λ k. jobsIn ts k (hopeful ts cells k)) (λ k. keep canFinish (jobsIn ts k (getD cells k 0))) (upFrom 0 n) (λ k m. sym (hopeful-cell ts k (getD cells k 0)))
-    ∙ sym (keep-flatMap canFinish (λ k. jobsIn ts k (getD cells k 0)) (upFrom 0 n))
-    ∙ ap (keep canFinish) (sym (jobs-sized ts n cells e))
+module _ (ts : Tasks) (left : List ℕ) (e : left ≡ leftTable ts) (cells : List ℕ) (h : Cells ts slotCells cells) where
+  hopeful-in : (k : ℕ) → k < slotCells → jobsIn ts k (hopefulIn cells left k) ≡ keep canFinish (jobsIn ts k (getD cells k 0))
+  hopeful-in k lt =
+      ap (λ l. jobsIn ts k (cond (leb (getD cells k 0) l) (getD cells k 0) 0)) (left-entry ts left e k lt)
+      ∙ sym (hopeful-cell ts k (getD cells k 0))
 
-pub hopeful-cells : (ts : Tasks) (n : ℕ) (cells : List ℕ) → Cells ts n cells → Cells ts n (map (hopeful ts cells) (upFrom 0 n))
-hopeful-cells ts n cells h = cells-table ts (hopeful ts cells) n (λ k lt. go k (leb (getD cells k 0) (leftIn ts k)))
-  where
-    go : (k : ℕ) (b : Bool) → (cond b (getD cells k 0) 0 ≤ taskAt ts k .work) × (0 < cond b (getD cells k 0) 0 → 0 < leftIn ts k)
-    go k true = (h .work k, h .left k)
-    go k false = (omega arith, λ lt. absurd (omega arith))
+  hopeful-jobs : jobsOf ts (hopeful cells left) ≡ keep canFinish (jobsOf ts cells)
+  unfolding hopeful
+  hopeful-jobs =
+      jobs-table ts (hopefulIn cells left) slotCells
+      ∙ flatMap-same (λ k. jobsIn ts k (hopefulIn cells left k)) (λ k. keep canFinish (jobsIn ts k (getD cells k 0))) (upFrom 0 slotCells)
+      (λ k m. hopeful-in k (omega (arith, mem-of-upFrom 0 slotCells m)))
+      ∙ sym (keep-flatMap canFinish (λ k. jobsIn ts k (getD cells k 0)) (upFrom 0 slotCells))
+      ∙ ap (keep canFinish) (sym (jobs-sized ts slotCells cells (h .size)))
+
+  hopeful-cells : Cells ts slotCells (hopeful cells left)
+  unfolding hopeful
+  hopeful-cells = cells-table ts (hopefulIn cells left) slotCells (λ k lt. go k (leb (getD cells k 0) (getD left k 0)))
+    where
+      go : (k : ℕ) (b : Bool) → FitCell ts k (cond b (getD cells k 0) 0)
+      go k true = (h .work k, h .left k)
+      go k false = (omega arith, λ lt. absurd (omega arith))
+
+  pub hopeful-leaves : {after : List ℕ} → after ≡ hopeful cells left → Leaves ts (keep canFinish (jobsOf ts cells)) slotCells after
+  hopeful-leaves is = leaves-same is hopeful-jobs hopeful-cells
 
 -- ---- 4. slots left falls by 1
-
-abbrev pub aged : Tasks → List ℕ → ℕ → ℕ
-aged ts cells k = cond (ltb 1 (leftIn ts (k + maxTasks))) (getD cells (k + maxTasks) 0) 0
 
 -- a row further on is a slot younger
 same-task : (ts : Tasks) (k : ℕ) → taskAt ts (k + maxTasks) ≡ taskAt ts k
@@ -142,34 +160,53 @@ aged-first ts k w r h = go (ltb 0 w)
     go true = rw (le-ltb 0 (leftIn ts k - 1) (omega (arith, window-low ts r (k % maxTasks))), and-false)
     go false = refl
 
-pub aged-jobs : (ts : Tasks) (cells : List ℕ) → TasksInRange ts → length cells ≡ slotCells
-    → jobsOf ts (map (aged ts cells) (upFrom 0 cellCount)) ≡ keep stays (map tick (jobsOf ts cells))
-aged-jobs ts cells r e =
-    jobs-table ts (aged ts cells) cellCount
-    ∙ flatMap-same (λ k. jobsIn ts k (aged ts cells k)) (λ k. after (k + maxTasks)) (upFrom 0 cellCount)
-    (λ k m. sym (aged-cell ts k (getD cells (k + maxTasks) 0) (omega (arith, mem-of-upFrom 0 cellCount m))))
-    ∙ sym (flatMap-shift after 0 maxTasks cellCount)
-    ∙ ap (λ l. l ++ flatMap after (upFrom maxTasks cellCount))
-    (sym (flatMap-none after (upFrom 0 maxTasks) (λ k m. aged-first ts k (getD cells k 0) r (omega (arith, mem-of-upFrom 0 maxTasks m)))))
-    ∙ sym (flatMap-append after (upFrom 0 maxTasks) (upFrom maxTasks cellCount))
-    ∙ ap (flatMap after) (sym (upFrom-append 0 maxTasks cellCount))
-    ∙ sym (keep-flatMap stays (λ k. map tick (jobsIn ts k (getD cells k 0))) (upFrom 0 slotCells))
-    ∙ ap (keep stays) (sym (map-flatMap tick (λ k. jobsIn ts k (getD cells k 0)) (upFrom 0 slotCells)))
-    ∙ ap (λ js. keep stays (map tick js)) (sym (jobs-sized ts slotCells cells e))
-  where
-    after : ℕ → List Job
-    after k = keep stays (map tick (jobsIn ts k (getD cells k 0)))
+module _ (ts : Tasks) (r : TasksInRange ts) (left : List ℕ) (e : left ≡ leftTable ts) (cells : List ℕ) (h : Cells ts slotCells cells) where
+  agedIn : ℕ → ℕ
+  agedIn k = stayingIn cells left (k + maxTasks)
 
-pub aged-cells : (ts : Tasks) (cells : List ℕ) → Cells ts slotCells cells → Cells ts cellCount (map (aged ts cells) (upFrom 0 cellCount))
-aged-cells ts cells h = cells-table ts (aged ts cells) cellCount (λ k lt. go k lt (ltb 1 (leftIn ts (k + maxTasks))) refl)
-  where
-    go : (k : ℕ) → k < cellCount → (b : Bool) → ltb 1 (leftIn ts (k + maxTasks)) ≡ b
-        → (cond b (getD cells (k + maxTasks) 0) 0 ≤ taskAt ts k .work) × (0 < cond b (getD cells (k + maxTasks) 0) 0 → 0 < leftIn ts k)
-    go k lt true e = (
-      omega (arith, h .work (k + maxTasks), ap (λ (t : Task). t .work) (same-task ts k)),
-      λ _. omega (arith, left-falls ts k lt, ltb-true 1 (leftIn ts (k + maxTasks)) e),
-    )
-    go k lt false e = (omega arith, λ p. absurd (omega arith))
+  after : ℕ → List Job
+  after k = keep stays (map tick (jobsIn ts k (getD cells k 0)))
+
+  aged-table : aged cells left ≡ map agedIn (upFrom 0 cellCount)
+  unfolding aged agedIn
+  aged-table = map-shift (stayingIn cells left) 0 maxTasks cellCount
+
+  aged-in : (k : ℕ) → k < cellCount → jobsIn ts k (agedIn k) ≡ after (k + maxTasks)
+  unfolding agedIn after
+  aged-in k lt =
+      ap (λ l. jobsIn ts k (cond (ltb 1 l) (getD cells (k + maxTasks) 0) 0)) (left-entry ts left e (k + maxTasks) (omega arith))
+      ∙ sym (aged-cell ts k (getD cells (k + maxTasks) 0) lt)
+
+  aged-jobs : jobsOf ts (aged cells left) ≡ keep stays (map tick (jobsOf ts cells))
+  unfolding after
+  aged-jobs =
+      ap (jobsOf ts) aged-table ∙ jobs-table ts agedIn cellCount
+      ∙ flatMap-same (λ k. jobsIn ts k (agedIn k)) (λ k. after (k + maxTasks)) (upFrom 0 cellCount)
+      (λ k m. aged-in k (omega (arith, mem-of-upFrom 0 cellCount m)))
+      ∙ sym (flatMap-shift after 0 maxTasks cellCount)
+      ∙ ap (λ l. l ++ flatMap after (upFrom maxTasks cellCount))
+      (sym (flatMap-none after (upFrom 0 maxTasks) (λ k m. aged-first ts k (getD cells k 0) r (omega (arith, mem-of-upFrom 0 maxTasks m)))))
+      ∙ sym (flatMap-append after (upFrom 0 maxTasks) (upFrom maxTasks cellCount))
+      ∙ ap (flatMap after) (sym (upFrom-append 0 maxTasks cellCount))
+      ∙ sym (keep-flatMap stays (λ k. map tick (jobsIn ts k (getD cells k 0))) (upFrom 0 slotCells))
+      ∙ ap (keep stays) (sym (map-flatMap tick (λ k. jobsIn ts k (getD cells k 0)) (upFrom 0 slotCells)))
+      ∙ ap (λ js. keep stays (map tick js)) (sym (jobs-sized ts slotCells cells (h .size)))
+
+  aged-cells : Cells ts cellCount (aged cells left)
+  unfolding agedIn
+  aged-cells =
+      subst (Cells ts cellCount) (sym aged-table)
+      (cells-table ts agedIn cellCount (λ k lt. go k lt (ltb 1 (getD left (k + maxTasks) 0)) refl))
+    where
+      go : (k : ℕ) → k < cellCount → (b : Bool) → ltb 1 (getD left (k + maxTasks) 0) ≡ b → FitCell ts k (cond b (getD cells (k + maxTasks) 0) 0)
+      go k lt true p = (
+        omega (arith, h .work (k + maxTasks), ap (λ (t : Task). t .work) (same-task ts k)),
+        λ _. omega (arith, left-falls ts k lt, left-entry ts left e (k + maxTasks) (omega arith), ltb-true 1 (getD left (k + maxTasks) 0) p),
+      )
+      go k lt false p = (omega arith, λ q. absurd (omega arith))
+
+  pub aged-leaves : {after : List ℕ} → after ≡ aged cells left → Leaves ts (keep stays (map tick (jobsOf ts cells))) cellCount after
+  aged-leaves is = leaves-same is aged-jobs aged-cells
 
 -- ---- 3. the job of a cell runs
 
@@ -179,11 +216,15 @@ one-cell ts i k hi hk p t l =
     let same : i % maxTasks ≡ k % maxTasks = omega arith in
     omega (arith, ap (λ j. getD ts j noTask .window) same)
 
+-- cells hold no job without work
+abbrev pub hasWork : Job → Bool
+hasWork j = ltb 0 (j .work)
+
 module _ (ts : Tasks) (cells : List ℕ) (at : ℕ) (h : Cells ts slotCells cells) (lt : at < slotCells) (p : 0 < getD cells at 0) where
   chosen : Job
   chosen = jobIn ts at (getD cells at 0)
 
-  run-cell : (k : ℕ) → k < slotCells → jobsIn ts k (getD (set cells at (getD cells at 0 - 1)) k 0) ≡ keep hasWork (map (worked chosen) (jobsIn ts k (getD cells k 0)))
+  run-cell : (k : ℕ) → k < slotCells → jobsIn ts k (getD (workedIn cells at) k 0) ≡ keep hasWork (map (worked chosen) (jobsIn ts k (getD cells k 0)))
   unfolding chosen
   run-cell k hk = here (eqb k at) refl
     where
@@ -199,37 +240,40 @@ module _ (ts : Tasks) (cells : List ℕ) (at : ℕ) (h : Cells ts slotCells cell
           differ false b x y = refl
       other false e ne = refl
 
-      here : (b : Bool) → eqb k at ≡ b → jobsIn ts k (getD (set cells at (getD cells at 0 - 1)) k 0) ≡ keep hasWork (map (worked (jobIn ts at (getD cells at 0))) (jobsIn ts k (getD cells k 0)))
+      here : (b : Bool) → eqb k at ≡ b → jobsIn ts k (getD (workedIn cells at) k 0) ≡ keep hasWork (map (worked (jobIn ts at (getD cells at 0))) (jobsIn ts k (getD cells k 0)))
       here true e =
-          subst (λ j. jobsIn ts j (getD (set cells at (getD cells at 0 - 1)) j 0) ≡ keep hasWork (map (worked (jobIn ts at (getD cells at 0))) (jobsIn ts j (getD cells j 0))))
+          subst (λ j. jobsIn ts j (getD (workedIn cells at) j 0) ≡ keep hasWork (map (worked (jobIn ts at (getD cells at 0))) (jobsIn ts j (getD cells j 0))))
           (sym (eqb-true k at e))
           (rw (getD-set-same cells at (getD cells at 0 - 1) 0 (omega (arith, h .size)), lt-ltb 0 (getD cells at 0) p, eq-eqb (taskIn at) (taskIn at) refl, eq-eqb (leftIn ts at) (leftIn ts at) refl))
       here false e =
           rw (getD-set-other cells at k (getD cells at 0 - 1) 0 (eqb-false k at e))
           (other (ltb 0 (getD cells k 0)) refl (eqb-false k at e))
 
-  pub run-jobs : jobsOf ts (set cells at (getD cells at 0 - 1)) ≡ keep hasWork (map (worked (jobIn ts at (getD cells at 0))) (jobsOf ts cells))
+  run-jobs : jobsOf ts (workedIn cells at) ≡ keep hasWork (map (worked (jobIn ts at (getD cells at 0))) (jobsOf ts cells))
   unfolding chosen
   run-jobs =
-      jobs-sized ts slotCells (set cells at (getD cells at 0 - 1)) (length-set cells at (getD cells at 0 - 1) ∙ h .size)
-      ∙ flatMap-same (λ k. jobsIn ts k (getD (set cells at (getD cells at 0 - 1)) k 0)) (λ k. keep hasWork (map (worked chosen) (jobsIn ts k (getD cells k 0)))) (upFrom 0 slotCells)
+      jobs-sized ts slotCells (workedIn cells at) (length-set cells at (getD cells at 0 - 1) ∙ h .size)
+      ∙ flatMap-same (λ k. jobsIn ts k (getD (workedIn cells at) k 0)) (λ k. keep hasWork (map (worked chosen) (jobsIn ts k (getD cells k 0)))) (upFrom 0 slotCells)
       (λ k m. run-cell k (omega (arith, mem-of-upFrom 0 slotCells m)))
       ∙ sym (keep-flatMap hasWork (λ k. map (worked chosen) (jobsIn ts k (getD cells k 0))) (upFrom 0 slotCells))
       ∙ ap (keep hasWork) (sym (map-flatMap (worked chosen) (λ k. jobsIn ts k (getD cells k 0)) (upFrom 0 slotCells)))
       ∙ ap (λ js. keep hasWork (map (worked chosen) js)) (sym (jobs-sized ts slotCells cells (h .size)))
 
-  pub run-cells : Cells ts slotCells (set cells at (getD cells at 0 - 1))
+  run-cells : Cells ts slotCells (workedIn cells at)
   run-cells = record {
     size = length-set cells at (getD cells at 0 - 1) ∙ h .size;
     work = λ k. omega (arith, falls k, h .work k);
     left = λ k q. h .left k (omega (arith, falls k));
   }
     where
-      falls : (k : ℕ) → getD (set cells at (getD cells at 0 - 1)) k 0 ≤ getD cells k 0
+      falls : (k : ℕ) → getD (workedIn cells at) k 0 ≤ getD cells k 0
       falls k = go (eqb k at) refl
         where
-          go : (b : Bool) → eqb k at ≡ b → getD (set cells at (getD cells at 0 - 1)) k 0 ≤ getD cells k 0
+          go : (b : Bool) → eqb k at ≡ b → getD (workedIn cells at) k 0 ≤ getD cells k 0
           go true e =
-              subst (λ j. getD (set cells at (getD cells at 0 - 1)) j 0 ≤ getD cells j 0) (sym (eqb-true k at e))
+              subst (λ j. getD (workedIn cells at) j 0 ≤ getD cells j 0) (sym (eqb-true k at e))
               (omega (arith, getD-set-same cells at (getD cells at 0 - 1) 0 (omega (arith, h .size))))
           go false e = omega (arith, getD-set-other cells at k (getD cells at 0 - 1) 0 (eqb-false k at e))
+
+  pub worked-leaves : {after : List ℕ} → after ≡ workedIn cells at → Leaves ts (keep hasWork (map (worked (jobIn ts at (getD cells at 0))) (jobsOf ts cells))) slotCells after
+  worked-leaves is = leaves-same is run-jobs run-cells

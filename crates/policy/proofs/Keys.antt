@@ -1,6 +1,6 @@
 -- The policies' keys as numbers: the least code is that of the first job.
 -- Assumes nothing.
-use mathlib.Core.Path.{_≡_, refl, sym, _∙_, ap, ap₂, subst, subst₂}
+use mathlib.Core.Path.{_≡_, refl, sym, _∙_, ap, ap₂, subst}
 use mathlib.Core.Bool.{Bool, true, false, cond, _&&_, _||_}
 use mathlib.Core.List.{List, [], _∷_, _++_, foldl, foldl-append, append-nil}
 use mathlib.Core.Logic.{_⊎_, inl, inr}
@@ -11,15 +11,14 @@ use native.Mathlib.Numerals.{add-one}
 use native.Mathlib.Omega.{arith}
 use borrow.Author.Tests.{lt-ltb, le-ltb, ltb-true, ltb-false, eq-eqb, ne-eqb, eqb-true, eqb-false}
 use lib.Dec.{ltb, eqb}
-use lib.ListN.{getD, List·getD-eq-default}
+use lib.ListN.{getD}
 use Rattle.model.specs.Limits.{maxTasks, maxWindow}
 use Rattle.model.specs.Lists.{consIf, flatMap, upFrom}
 use Rattle.model.specs.Plan.{Task}
 use Rattle.model.specs.Slot.{Job, noTask, taskOf, releaseSlot, longAgo, edf, srt, fifo, key, keyBelow, sooner, first}
-use Rattle.model.proofs.Lists.{flatMap-append, upFrom-append, getD-table}
-use Rattle.policy.specs.View.{Tasks, slotCells, taskIn, taskAt, ageIn, leftIn, leftTable, Low, jobIn, jobsIn, jobsOf, TasksInRange, Cells, Chosen, keyNumber, keyIn, codeIn, places, noCode}
-use Rattle.policy.proofs.Lists.{length-table}
-use Rattle.policy.proofs.Cells.{jobs-sized, window-low, work-within}
+use Rattle.model.proofs.Lists.{flatMap-append, upFrom-append}
+use Rattle.policy.specs.View.{Tasks, slotCells, taskIn, taskAt, ageIn, leftIn, leftTable, jobIn, jobsIn, jobsOf, TasksInRange, Cells, keyNumber, keyIn, codeIn, codeAt, leastCode, cellOf, firstCell, places, noCode}
+use Rattle.policy.proofs.Cells.{jobs-sized, window-low, work-within, left-entry}
 
 -- keys' first parts as digits above what is left
 digit-order : (b x y p q : ℕ) (xs ys : List ℕ) → p < b → q < b → keyBelow xs ys ≡ ltb p q
@@ -79,7 +78,7 @@ origins : (a b : ℕ) → a ≤ maxWindow → b ≤ maxWindow → (longAgo - a) 
 origins a b h h′ = omega arith
 
 -- a job's release slot from its cell
-pub released : (ts : Tasks) (k w : ℕ) → 0 < leftIn ts k → releaseSlot ts (jobIn ts k w) ≡ longAgo - ageIn k
+released : (ts : Tasks) (k w : ℕ) → 0 < leftIn ts k → releaseSlot ts (jobIn ts k w) ≡ longAgo - ageIn k
 released ts k w h = omega (arith, ap (λ (t : Task). t .window) (task-number ts k))
 
 module _ (ts : Tasks) (policy k i w w′ : ℕ) (lt : i < k) (hk : k < places) (lk : leftIn ts k ≤ maxWindow) (li : leftIn ts i ≤ maxWindow)
@@ -116,41 +115,33 @@ module _ (ts : Tasks) (policy k i w w′ : ℕ) (lt : i < k) (hk : k < places) (
           ∙ number-order (maxWindow - ageIn k) (taskIn k) 0 (maxWindow - ageIn i) (taskIn i) 0 k i tk ti (omega arith) (omega arith) lt hk
       go false false false = number-order 0 (taskIn k) (leftIn ts k) 0 (taskIn i) (leftIn ts i) k i tk ti lk li lt hk
 
--- a key's number has room
-pub key-low : (policy k w l : ℕ) → w ≤ maxWindow → l ≤ maxWindow → keyIn policy k w l ≤ keyNumber maxWindow maxTasks maxWindow
+-- a key of bytes, as a number
+pub key-low : (policy k w l : ℕ) → w ≤ 255 → l ≤ 255 → keyIn policy k w l ≤ keyNumber 255 maxTasks 255
 unfolding keyIn
 key-low policy k w l hw hl = go (eqb policy edf) (eqb policy srt) (eqb policy fifo)
   where
     go : (a b c : Bool) →
         cond a (keyNumber l (taskIn k) 0) (cond b (keyNumber w (taskIn k) l) (cond c (keyNumber (maxWindow - ageIn k) (taskIn k) 0) (keyNumber 0 (taskIn k) l)))
-        ≤ keyNumber maxWindow maxTasks maxWindow
+        ≤ keyNumber 255 maxTasks 255
     go true b c = omega arith
     go false true c = omega arith
     go false false true = omega arith
     go false false false = omega arith
 
--- works and slots left are at most maxWindow
-pub left-low : (ts : Tasks) → TasksInRange ts → (k : ℕ) → leftIn ts k ≤ maxWindow
+left-low : (ts : Tasks) → TasksInRange ts → (k : ℕ) → leftIn ts k ≤ maxWindow
 left-low ts r k = omega (arith, window-low ts r (k % maxTasks))
 
-pub low-cells : (ts : Tasks) (n : ℕ) (cells : List ℕ) → TasksInRange ts → Cells ts n cells → Low cells
-low-cells ts n cells r h = record { law = λ k. omega (arith, h .work k, work-within ts r (k % maxTasks), window-low ts r (k % maxTasks)) }
+-- the job of the cell at, none from slotCells on
+abbrev pub choiceIn : Tasks → List ℕ → ℕ → Option Job
+choiceIn ts cells at = cond (ltb at slotCells) (some (jobIn ts at (getD cells at 0))) none
 
-pub low-left : (ts : Tasks) (left : List ℕ) → TasksInRange ts → left ≡ leftTable ts → Low left
-low-left ts left r e = record { law = λ k. go k (ltb k slotCells) refl }
-  where
-    go : (k : ℕ) (b : Bool) → ltb k slotCells ≡ b → getD left k 0 ≤ maxWindow
-    go k true lt =
-        omega (arith, ap (λ l. getD l k 0) e ∙ getD-table (leftIn ts) slotCells k 0 (ltb-true k slotCells lt), left-low ts r k)
-    go k false le =
-        omega (arith, ap (λ l. getD l k 0) e ∙ List·getD-eq-default (leftTable ts) 0 {n = k} (omega (arith, length-table (leftIn ts) slotCells, ltb-false k slotCells le)))
+-- the cell at has the first job by the policy's key, if there is a job
+pub record Chosen (ts : Tasks) (policy : ℕ) (cells : List ℕ) (at : ℕ) : Type 0 where
+  pub bound : at ≤ slotCells
+  pub choice : choiceIn ts cells at ≡ first (key ts policy) (jobsOf ts cells)
+  pub work : at < slotCells → 0 < getD cells at 0
 
--- the least of n codes, with noCode for none
-abbrev pub leastTo : (ℕ → ℕ) → ℕ → ℕ
-leastTo f zero = noCode
-leastTo f (suc n) = cond (ltb (f n) (leastTo f n)) (f n) (leastTo f n)
-
-module _ (ts : Tasks) (policy : ℕ) (cells : List ℕ) (r : TasksInRange ts) (h : Cells ts slotCells cells) where
+module _ (ts : Tasks) (policy : ℕ) (r : TasksInRange ts) (left : List ℕ) (e : left ≡ leftTable ts) (cells : List ℕ) (h : Cells ts slotCells cells) where
   -- the job and the code of a cell that has one
   job : ℕ → Job
   job k = jobIn ts k (getD cells k 0)
@@ -160,7 +151,9 @@ module _ (ts : Tasks) (policy : ℕ) (cells : List ℕ) (r : TasksInRange ts) (h
 
   code-low : (k : ℕ) → k < slotCells → code k < noCode
   unfolding code
-  code-low k lt = omega (arith, key-low policy k (getD cells k 0) (leftIn ts k) (low-cells ts slotCells cells r h .law k) (left-low ts r k))
+  code-low k lt =
+      let low : getD cells k 0 ≤ maxWindow = omega (arith, h .work k, work-within ts r (k % maxTasks), window-low ts r (k % maxTasks)) in
+      omega (arith, key-low policy k (getD cells k 0) (leftIn ts k) (omega arith) (omega (arith, left-low ts r k)))
 
   -- of the first n cells: none has a job, or that of i has the least code and is the first by the key
   Best : ℕ → ℕ → Option Job → Type 0
@@ -201,46 +194,45 @@ module _ (ts : Tasks) (policy : ℕ) (cells : List ℕ) (r : TasksInRange ts) (h
   firstTo : ℕ → Option Job
   firstTo n = foldl (sooner (key ts policy)) none (upTo n)
 
-  best-to : (n : ℕ) → n ≤ slotCells → Best n (leastTo (λ k. codeIn policy k (getD cells k 0) (leftIn ts k)) n) (firstTo n)
-  unfolding Best firstTo upTo code job codeIn
+  codes : ℕ → ℕ
+  codes = codeAt policy cells left
+
+  code-none : (k : ℕ) → ltb 0 (getD cells k 0) ≡ false → codes k ≡ noCode
+  unfolding codes codeIn
+  code-none k c = rw (eq-eqb (getD cells k 0) 0 (omega (arith, ltb-false 0 (getD cells k 0) c)))
+
+  code-some : (k : ℕ) → k < slotCells → ltb 0 (getD cells k 0) ≡ true → codes k ≡ code k
+  unfolding codes codeIn code
+  code-some k lt c =
+      rw (ne-eqb (getD cells k 0) 0 (λ z. absurd (omega (arith, ltb-true 0 (getD cells k 0) c))), left-entry ts left e k lt)
+
+  best-to : (n : ℕ) → n ≤ slotCells → Best n (leastCode codes n) (firstTo n)
+  unfolding Best firstTo upTo leastCode job
   best-to zero le = inl (refl, refl)
   best-to (suc n) le =
-      subst (Best (suc n) (leastTo (λ k. codeIn policy k (getD cells k 0) (leftIn ts k)) (suc n)))
+      subst (Best (suc n) (leastCode codes (suc n)))
       (sym (ap (foldl (sooner (key ts policy)) none) (up-suc n) ∙ foldl-append (sooner (key ts policy)) none (upTo n) (jobsIn ts n (getD cells n 0))))
       (go (ltb 0 (getD cells n 0)) refl (best-to n (omega arith)))
     where
-      go : (b : Bool) → ltb 0 (getD cells n 0) ≡ b → Best n (leastTo (λ k. codeIn policy k (getD cells k 0) (leftIn ts k)) n) (firstTo n)
-          → Best (suc n) (leastTo (λ k. codeIn policy k (getD cells k 0) (leftIn ts k)) (suc n)) (foldl (sooner (key ts policy)) (firstTo n) (consIf b (job n) []))
-      go true e s =
-          rw (ne-eqb (getD cells n 0) 0 (λ z. absurd (omega (arith, ltb-true 0 (getD cells n 0) e))))
-          (best-some n _ (firstTo n) le (ltb-true 0 (getD cells n 0) e) s)
-      go false e s =
-          rw (eq-eqb (getD cells n 0) 0 (omega (arith, ltb-false 0 (getD cells n 0) e)))
-          (best-none n _ (firstTo n) le s)
+      go : (b : Bool) → ltb 0 (getD cells n 0) ≡ b → Best n (leastCode codes n) (firstTo n)
+          → Best (suc n) (cond (ltb (codes n) (leastCode codes n)) (codes n) (leastCode codes n)) (foldl (sooner (key ts policy)) (firstTo n) (consIf b (job n) []))
+      go true c s = rw (code-some n le c) (best-some n (leastCode codes n) (firstTo n) le (ltb-true 0 (getD cells n 0) c) s)
+      go false c s = rw (code-none n c) (best-none n (leastCode codes n) (firstTo n) le s)
 
   -- what the least code says of the first job
-  told-none : (best : ℕ) → Best slotCells best (first (key ts policy) (jobsOf ts cells)) → best ≡ noCode → Chosen ts policy cells slotCells
-  unfolding Best
-  told-none best (inl s) e = record { bound = omega arith; choice = sym (s .1); work = λ lt. absurd (omega arith) }
-  told-none best (inr (i, lt, p, c, f)) e = absurd (omega (arith, code-low i lt))
-
-  told-some : (best : ℕ) → Best slotCells best (first (key ts policy) (jobsOf ts cells)) → (best ≡ noCode → ⊥) → Chosen ts policy cells (best % places)
+  told : (best : ℕ) → Best slotCells best (first (key ts policy) (jobsOf ts cells)) → Chosen ts policy cells (cellOf best)
   unfolding Best code job
-  told-some best (inl s) ne = absurd (ne (s .0))
-  told-some best (inr (i, lt, p, c, f)) ne =
+  told best (inl s) =
+      rw (eq-eqb best noCode (s .0)) (record { bound = omega arith; choice = sym (s .1); work = λ lt. absurd (omega arith) })
+  told best (inr (i, lt, p, c, f)) =
       let place : best % places ≡ i = omega arith in
-      subst (Chosen ts policy cells) (sym place)
+      rw (ne-eqb best noCode (λ z. absurd (omega (arith, code-low i lt))), place)
       (record { bound = omega arith; choice = rw (lt-ltb i slotCells lt) (sym f); work = λ _. p })
 
-  module _ (best : ℕ) (e : best ≡ leastTo (λ k. codeIn policy k (getD cells k 0) (leftIn ts k)) slotCells) where
-    told : Best slotCells best (first (key ts policy) (jobsOf ts cells))
-    unfolding first firstTo upTo
-    told =
-        subst₂ (Best slotCells) (sym e) (ap (foldl (sooner (key ts policy)) none) (sym (jobs-sized ts slotCells cells (h .size))))
-        (best-to slotCells (le-refl slotCells))
-
-    pub chosen-none : best ≡ noCode → Chosen ts policy cells slotCells
-    chosen-none = told-none best told
-
-    pub chosen-some : (best ≡ noCode → ⊥) → Chosen ts policy cells (best % places)
-    chosen-some = told-some best told
+  pub first-cell : {at : ℕ} → at ≡ firstCell policy cells left → Chosen ts policy cells at
+  unfolding first firstTo upTo codes firstCell
+  first-cell is =
+      subst (Chosen ts policy cells) (sym is)
+      (told (leastCode codes slotCells)
+      (subst (Best slotCells (leastCode codes slotCells)) (ap (foldl (sooner (key ts policy)) none) (sym (jobs-sized ts slotCells cells (h .size))))
+      (best-to slotCells (le-refl slotCells))))

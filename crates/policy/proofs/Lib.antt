@@ -2,9 +2,7 @@ pub mod Lists
 pub mod Cells
 pub mod NewJobs
 pub mod Keys
-pub mod Steps
 pub mod Rule
-pub mod Rising
 pub mod Canonical
 pub mod Gain
 pub mod Plans

@@ -1,17 +1,17 @@
--- Laws of flatMap, of tables, and of a loop that stores one entry a turn.
+-- Laws of flatMap, of tables, and of a loop that writes one entry a turn.
 -- Assumes nothing.
 use mathlib.Core.Path.{_≡_, refl, sym, _∙_, ap, ap₂}
 use mathlib.Core.Bool.{Bool}
-use mathlib.Core.List.{List, [], _∷_, _++_, map, map-append, List·Memᴰ, List·Memᴰ·head, List·Memᴰ·tail}
-use Prim.Native.Nat.{ℕ, zero, suc, _+_, _≤_, _<_}
-use native.Mathlib.Nat.{suc-add}
+use mathlib.Core.List.{List, [], _∷_, _++_, map, map-append, append-nil, List·Memᴰ, List·Memᴰ·head, List·Memᴰ·tail}
+use Prim.Native.Nat.{ℕ, zero, suc, _+_, _<_}
+use native.Mathlib.Nat.{zero-add, suc-add}
 use native.Mathlib.Omega.{arith}
-use borrow.Author.Count.{below-none, below-more}
-use lib.ListN.{length, getD, set, length-map, length-set}
-use lib.Seq.{getD-set-same, getD-set-other, ext-getD}
+use lib.ListN.{length, set, drop, length-map, length-append, drop-of-length-le}
+use lib.Seq.{take-at}
+use Rattle.model.specs.Bytes.{overwrite}
 use Rattle.model.specs.Lists.{keep, flatMap, upFrom}
-use Rattle.policy.specs.View.{Filled}
-use Rattle.model.proofs.Lists.{keep-append, length-upFrom, getD-table}
+use Rattle.model.proofs.Lists.{keep-append, length-upFrom, upFrom-append}
+use Rattle.words.proofs.Memory.{overwrite-all, overwrite-more}
 
 module _ {ℓ κ} {A : Type ℓ} {B : Type κ} where
   -- functions that agree on the list
@@ -41,25 +41,40 @@ flatMap-shift f k m (suc n) = ap (λ l. f (k + m) ++ l) (ap (λ j. flatMap f (up
 
 -- ---- tables
 
+-- the numbers from k + m up are those from k up, m higher
+pub map-shift {ℓ} : {B : Type ℓ} (f : ℕ → B) (k m n : ℕ) → map f (upFrom (k + m) n) ≡ map (λ j. f (j + m)) (upFrom k n)
+map-shift f k m zero = refl
+map-shift f k m (suc n) = ap (λ l. f (k + m) ∷ l) (ap (λ j. map f (upFrom j n)) (sym (suc-add k m)) ∙ map-shift f (suc k) m n)
+
 pub length-table {ℓ} : {B : Type ℓ} (f : ℕ → B) (n : ℕ) → length (map f (upFrom 0 n)) ≡ n
 length-table f n = length-map (upFrom 0 n) f ∙ length-upFrom 0 n
 
--- a table that is filled from the front, one store a turn
-module _ (f : ℕ → ℕ) (n : ℕ) where
-  pub filled-none : (l : List ℕ) → length l ≡ n → Filled f n 0 l
-  filled-none l e = record { size = e; below = below-none (λ j. getD l j 0 ≡ f j) }
+-- a table that is written from its front, one store a turn
+module _ (f : ℕ → ℕ) (i : ℕ) (before : List ℕ) where
+  table-more : (k : ℕ) → map f (upFrom i (k + 1)) ≡ map f (upFrom i k) ++ (f (i + k) ∷ [])
+  table-more k = ap (map f) (upFrom-append i k 1) ∙ map-append f (upFrom i k) (upFrom (i + k) 1)
 
-  pub filled-more : (k : ℕ) (l : List ℕ) (v : ℕ) → k < n → v ≡ f k → Filled f n k l → Filled f n (k + 1) (set l k v)
-  filled-more k l v h e w = record {
-    size = length-set l k v ∙ w .size;
-    below =
-        below-more (λ j. getD (set l k v) j 0 ≡ f j) k (λ j lt. getD-set-other l k j v 0 (omega arith) ∙ w .below j lt)
-        (getD-set-same l k v 0 (omega (arith, w .size)) ∙ e);
-  }
+  size : (k : ℕ) → length (map f (upFrom i k)) ≡ k
+  size k = length-map (upFrom i k) f ∙ length-upFrom i k
 
-  pub filled-all : (k : ℕ) (l : List ℕ) (g : ℕ → ℕ) → n ≤ k → Filled f n k l → ((j : ℕ) → j < n → f j ≡ g j) → l ≡ map g (upFrom 0 n)
-  filled-all k l g h w e =
-      ext-getD 0 l (map g (upFrom 0 n)) (w .size ∙ sym (length-table g n))
-      (λ i lt.
-      let lt′ : i < n = omega (arith, w .size) in
-      w .below i (omega arith) ∙ e i lt′ ∙ sym (getD-table g n i 0 lt′))
+  pub written-more : (at k p j : ℕ) {v : ℕ} {now : List ℕ} → p ≡ at + k → j ≡ i + k → p < length before → v ≡ f j
+      → now ≡ overwrite before at (map f (upFrom i k)) → set now p v ≡ overwrite before at (map f (upFrom i (k + 1)))
+  written-more at k p j ep ej lt e w =
+      (λ x. set (w x) (ep x) ((e ∙ ap f ej) x))
+      ∙ overwrite-more before at (map f (upFrom i k)) k (f (i + k)) (size k) (omega arith)
+      ∙ ap (overwrite before at) (sym (table-more k))
+
+  pub written-all : (k n : ℕ) {now : List ℕ} → k ≡ n → n ≡ length before → now ≡ overwrite before 0 (map f (upFrom i k)) → now ≡ map f (upFrom i n)
+  written-all k n e fits w =
+      w ∙ ap (λ m. overwrite before 0 (map f (upFrom i m))) e ∙ overwrite-all before (map f (upFrom i n)) (size n ∙ fits)
+
+-- ---- writes to the front and to the end of a list
+
+pub write-front : (m bs : List ℕ) (n : ℕ) → length bs ≡ n → overwrite m 0 bs ≡ bs ++ drop n m
+unfolding overwrite
+write-front m bs n e = rw (zero-add, e)
+
+pub write-end : (xs ys bs : List ℕ) (n : ℕ) → length xs ≡ n → length bs ≡ length ys → overwrite (xs ++ ys) n bs ≡ xs ++ bs
+unfolding overwrite
+write-end xs ys bs n e same =
+    rw (take-at xs ys n e, drop-of-length-le (xs ++ ys) {i = n + length bs} (omega (arith, length-append xs ys))) (append-nil (xs ++ bs))

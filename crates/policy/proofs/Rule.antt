@@ -13,8 +13,9 @@ use Rattle.model.specs.Limits.{maxTasks}
 use Rattle.model.specs.Lists.{consIf, keep}
 use Rattle.model.specs.Plan.{Task, Plan}
 use Rattle.model.specs.Slot.{Job, Done, newJobs, canFinish, key, first, worked, tick, stays, runFirst, ready, slot, taskOf}
-use Rattle.policy.specs.View.{Tasks, slotCells, taskIn, taskAt, jobIn, jobsOf, hasWork, choiceIn}
-use Rattle.policy.proofs.Keys.{task-number}
+use Rattle.policy.specs.View.{Tasks, slotCells, taskIn, taskAt, jobIn, jobsOf}
+use Rattle.policy.proofs.Cells.{hasWork}
+use Rattle.policy.proofs.Keys.{task-number, choiceIn}
 
 -- a job without work goes at the slot's end, so it may go before it
 stays-works : (js : List Job) → keep stays (map tick (keep hasWork js)) ≡ keep stays (map tick js)

@@ -1,16 +1,15 @@
 -- What the cells of a node's jobs, the rules and a slot's result stand for.
 use mathlib.Core.Path.{_≡_}
-use mathlib.Core.Bool.{Bool, cond}
-use mathlib.Core.List.{List, [], map}
-use mathlib.Core.Option.{Option, none, some}
-use Prim.Native.Nat.{ℕ, suc, _+_, _-_, _*_, _/_, _%_, _<_, _≤_}
-use lib.Dec.{eqb, ltb}
-use lib.ListN.{length, getD}
+use mathlib.Core.Bool.{cond}
+use mathlib.Core.List.{List, [], _++_, map}
+use Prim.Native.Nat.{ℕ, zero, suc, _+_, _-_, _*_, _/_, _%_, _<_, _≤_}
+use lib.Dec.{eqb, leb, ltb}
+use lib.ListN.{length, getD, set}
 use Rattle.model.specs.Limits.{maxTasks, maxWindow}
 use Rattle.model.specs.Lists.{consIf, flatMap, upFrom, bit}
 use Rattle.model.specs.Plan as model
 use Rattle.model.specs.Slot as model-slot
-use Rattle.model.specs.Slot.{Job, noTask, edf, srt, fifo, first, key}
+use Rattle.model.specs.Slot.{Job, noTask, edf, srt, fifo}
 use Rattle.plan.specs.View.{tasksOf}
 use Rattle.plan.specs.declared.Plan.{Plan}
 use Rattle.policy.specs.declared.Rules.{Rules}
@@ -74,23 +73,24 @@ pub record Leaves (ts : Tasks) (js : List Job) (n : ℕ) (after : List ℕ) : Ty
   pub jobs : jobsOf ts after ≡ js
   pub cells : Cells ts n after
 
-abbrev pub hasWork : Job → Bool
-hasWork j = ltb 0 (j .work)
+-- The steps of a slot on cells, where left has the slots left of a job in each cell.
 
--- the first k of n entries are f's
-pub record Filled (f : ℕ → ℕ) (n k : ℕ) (l : List ℕ) : Type 0 where
-  pub size : length l ≡ n
-  pub below : (j : ℕ) → j < k → getD l j 0 ≡ f j
-
--- no number of a list is above maxWindow
-pub record Low (l : List ℕ) : Type 0 where
-  pub law : (k : ℕ) → getD l k 0 ≤ maxWindow
-
--- the work of a new job of the task at i
+-- the work of a new job of the task at i, 0 where the label has none
 abbrev pub newWork : Tasks → ℕ → ℕ → ℕ
 newWork ts l i = cond (bit l i) (getD ts i noTask .work) 0
 
--- The policies' keys, each as one number that orders as the key does.
+-- 1. "The new jobs join with C slots of work remaining": the cells, and then one for each task.
+unfoldable pub joined : Tasks → List ℕ → ℕ → List ℕ
+joined ts cells l = cells ++ map (newWork ts l) (upFrom 0 maxTasks)
+
+-- 2. "Each job with more work remaining than slots left is dropped."
+abbrev pub hopefulIn : List ℕ → List ℕ → ℕ → ℕ
+hopefulIn cells left k = cond (leb (getD cells k 0) (getD left k 0)) (getD cells k 0) 0
+
+unfoldable pub hopeful : List ℕ → List ℕ → List ℕ
+hopeful cells left = map (hopefulIn cells left) (upFrom 0 slotCells)
+
+-- the policies' keys, each as one number that orders as the key does
 abbrev pub keyNumber : ℕ → ℕ → ℕ → ℕ
 keyNumber high task low = (high * suc maxTasks + task) * suc maxWindow + low
 
@@ -106,20 +106,37 @@ abbrev pub places : ℕ
 places = 64
 
 abbrev pub noCode : ℕ
-noCode = 65535
+noCode = 4294967295
 
 unfoldable pub codeIn : ℕ → ℕ → ℕ → ℕ → ℕ
 codeIn policy k work left = cond (eqb work 0) noCode (keyIn policy k work left * places + k)
 
--- the job of the cell at, none from slotCells on
-abbrev pub choiceIn : Tasks → List ℕ → ℕ → Option Job
-choiceIn ts cells at = cond (ltb at slotCells) (some (jobIn ts at (getD cells at 0))) none
+abbrev pub codeAt : ℕ → List ℕ → List ℕ → ℕ → ℕ
+codeAt policy cells left k = codeIn policy k (getD cells k 0) (getD left k 0)
 
--- the cell at has the first job by the policy's key, if there is a job
-pub record Chosen (ts : Tasks) (policy : ℕ) (cells : List ℕ) (at : ℕ) : Type 0 where
-  pub bound : at ≤ slotCells
-  pub choice : choiceIn ts cells at ≡ first (key ts policy) (jobsOf ts cells)
-  pub work : at < slotCells → 0 < getD cells at 0
+-- the least of f 0 to f (n − 1), noCode where there is none
+unfoldable pub leastCode : (ℕ → ℕ) → ℕ → ℕ
+leastCode f zero = noCode
+leastCode f (suc n) = cond (ltb (f n) (leastCode f n)) (f n) (leastCode f n)
+
+-- the cell of a code, slotCells of noCode
+abbrev pub cellOf : ℕ → ℕ
+cellOf code = cond (eqb code noCode) slotCells (code % places)
+
+-- 3. "the first by the policy's key": the cell of the least code, slotCells where there is no job.
+unfoldable pub firstCell : ℕ → List ℕ → List ℕ → ℕ
+firstCell policy cells left = cellOf (leastCode (codeAt policy cells left) slotCells)
+
+-- 3. It "runs one slot. Work falls by 1."
+abbrev pub workedIn : List ℕ → ℕ → List ℕ
+workedIn cells at = set cells at (getD cells at 0 - 1)
+
+-- 4. "Slots left falls by 1 ..; at 0 the job goes": the cells from the second row on, where more than one slot is left.
+abbrev pub stayingIn : List ℕ → List ℕ → ℕ → ℕ
+stayingIn cells left k = cond (ltb 1 (getD left k 0)) (getD cells k 0) 0
+
+unfoldable pub aged : List ℕ → List ℕ → List ℕ
+aged cells left = map (stayingIn cells left) (upFrom maxTasks cellCount)
 
 -- the tasks of the rules, and the slots left by them
 abbrev pub tasksIn : Rules → Tasks

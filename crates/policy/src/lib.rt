@@ -5,16 +5,14 @@ use plan::Plan;
 use plan::Task;
 ghost use mathlib.Core.Path.{_≡_};
 ghost use mathlib.Core.Bool.{cond};
-ghost use mathlib.Core.List.{[], _++_, map};
-ghost use Prim.Native.Nat.{_<_, _≤_};
+ghost use mathlib.Core.List.{[], _++_};
+ghost use Prim.Native.Nat.{_<_};
 ghost use lib.Dec.{eqb, leb, ltb};
-ghost use lib.ListN.{getD};
-ghost use Rattle.model.specs.Limits.{maxTasks, maxWindow};
-ghost use Rattle.model.specs.Lists.{keep};
-ghost use Rattle.model.specs.Slot.{newJobs, canFinish, worked, tick, stays};
+ghost use lib.ListN.{getD, replicate};
+ghost use Rattle.model.specs.Limits.{maxTasks};
 ghost use Rattle.model.specs.Plan.{IsSound};
 ghost use Rattle.plan.specs.View.{taskView, tasksOf, planOf, Sized};
-ghost use Rattle.policy.specs.View.{Tasks, cellCount, slotCells, taskAt, leftIn, leftTable, jobIn, jobsOf, TasksInRange, Cells, Leaves, Filled, Low, hasWork, newWork, keyNumber, keyIn, codeIn, Chosen, tasksIn, Ruled, RulesOf, Slotted};
+ghost use Rattle.policy.specs.View.{Tasks, cellCount, slotCells, taskAt, leftIn, leftTable, Cells, Leaves, newWork, joined, hopeful, keyNumber, keyIn, codeIn, firstCell, workedIn, aged, tasksIn, Ruled, RulesOf, Slotted};
 
 const MAX_TASKS: usize = Node::MAX_TASKS;
 
@@ -33,14 +31,14 @@ const SRT: u8 = Node::SRT;
 const FIFO: u8 = Node::FIFO;
 
 // The parts of a key are below these: a task, slots left or work, a cell.
-const TASK_BASE: u16 = MAX_TASKS as u16 + 1;
+const TASK_BASE: u32 = MAX_TASKS as u32 + 1;
 
-const WINDOW_BASE: u16 = MAX_WINDOW as u16 + 1;
+const WINDOW_BASE: u32 = MAX_WINDOW as u32 + 1;
 
-const PLACES: u16 = 64;
+const PLACES: u32 = 64;
 
 // The code of no job, above that of any job.
-const NO_CODE: u16 = 65535;
+const NO_CODE: u32 = 4294967295;
 
 // The tasks and the policy of a plan, and the slots left of a job in each cell.
 pub struct Rules {
@@ -136,21 +134,16 @@ fn new_work(tasks: [Task; MAX_TASKS], count: usize, label: u8, i: usize) -> u8
 
 // The cells with room for new jobs.
 fn widen(cells: [u8; CELLS]) -> [u8; SLOT_CELLS]
-    ensures { λ r. ⌜ Filled (λ k. getD cells k 0) slotCells cellCount r ⌝ }
+    ensures { λ r. ⌜ r ≡ cells ++ replicate maxTasks 0 ⌝ }
 {
     let mut wide = [0u8; SLOT_CELLS];
-    let mut k = 0;
-    while k < CELLS {
-        wide[k] = cells[k];
-        k += 1;
-    }
+    words::copy(&cells, 0, &mut wide, 0, CELLS);
     wide
 }
 
 // 1. The label's new jobs join.
 fn join(tasks: [Task; MAX_TASKS], count: usize, cells: [u8; CELLS], label: u8) -> [u8; SLOT_CELLS]
-    requires { ⌜ TasksInRange (tasksOf tasks count) × Cells (tasksOf tasks count) cellCount cells ⌝ }
-    ensures { λ r. ⌜ Leaves (tasksOf tasks count) (jobsOf (tasksOf tasks count) cells ++ newJobs (tasksOf tasks count) label 1) slotCells r ⌝ }
+    ensures { λ r. ⌜ r ≡ joined (tasksOf tasks count) cells label ⌝ }
 {
     let mut joined = widen(cells);
     let mut i = 0;
@@ -170,7 +163,7 @@ fn if_hopeful(work: u8, left: u8) -> u8
 
 // 2. Each job with more work remaining than slots left is dropped.
 fn drop_hopeless(cells: &[u8; SLOT_CELLS], left: &[u8; SLOT_CELLS]) -> [u8; SLOT_CELLS]
-    ensures { λ r. ⌜ ((ts : Tasks) → now (left .entry) ≡ leftTable ts → Cells ts slotCells (now (cells .entry)) → Leaves ts (keep canFinish (jobsOf ts (now (cells .entry)))) slotCells r) ⌝ }
+    ensures { λ r. ⌜ r ≡ hopeful (now (cells .entry)) (now (left .entry)) ⌝ }
 {
     let mut kept = [0u8; SLOT_CELLS];
     let mut k = 0;
@@ -182,23 +175,20 @@ fn drop_hopeless(cells: &[u8; SLOT_CELLS], left: &[u8; SLOT_CELLS]) -> [u8; SLOT
 }
 
 // The parts of a key as one number.
-fn key(high: u16, task: u16, low: u16) -> u16
-    requires { ⌜ (high ≤ maxWindow) × (task ≤ maxTasks) × (low ≤ maxWindow) ⌝ }
+fn key(high: u8, task: u8, low: u8) -> u32
     ensures { λ r. ⌜ r ≡ keyNumber high task low ⌝ }
 {
-    (high * TASK_BASE + task) * WINDOW_BASE + low
+    (high as u32 * TASK_BASE + task as u32) * WINDOW_BASE + low as u32
 }
 
 // The key of a job by the policy: EDF, SRT, FIFO, else SP.
-fn key_of(policy: u8, k: usize, work: u8, left: u8) -> u16
-    requires { ⌜ (k < slotCells) × (work ≤ maxWindow) × (left ≤ maxWindow) ⌝ }
+fn key_of(policy: u8, k: usize, work: u8, left: u8) -> u32
+    requires { ⌜ k < slotCells ⌝ }
     ensures { λ r. ⌜ r ≡ keyIn policy k work left ⌝ }
 {
-    let task = (k % MAX_TASKS + 1) as u16;
-    let age = (MAX_WINDOW - (k / MAX_TASKS + 1)) as u16;
-    let released = MAX_WINDOW as u16 - age;
-    let work = work as u16;
-    let left = left as u16;
+    let task = (k % MAX_TASKS + 1) as u8;
+    let age = (MAX_WINDOW - (k / MAX_TASKS + 1)) as u8;
+    let released = MAX_WINDOW as u8 - age;
     match policy {
         EDF => key(left, task, 0),
         SRT => key(work, task, left),
@@ -208,17 +198,17 @@ fn key_of(policy: u8, k: usize, work: u8, left: u8) -> u16
 }
 
 // A job's key with its cell.
-fn code_of(policy: u8, k: usize, work: u8, left: u8) -> u16
-    requires { ⌜ (k < slotCells) × (work ≤ maxWindow) × (left ≤ maxWindow) ⌝ }
+fn code_of(policy: u8, k: usize, work: u8, left: u8) -> u32
+    requires { ⌜ k < slotCells ⌝ }
     ensures { λ r. ⌜ r ≡ codeIn policy k work left ⌝ }
 {
     if work == 0 {
         return NO_CODE;
     }
-    key_of(policy, k, work, left) * PLACES + k as u16
+    key_of(policy, k, work, left) * PLACES + k as u32
 }
 
-fn least(a: u16, b: u16) -> u16
+fn least(a: u32, b: u32) -> u32
     ensures { λ r. ⌜ r ≡ cond (ltb b a) b a ⌝ }
 {
     if b < a { b } else { a }
@@ -226,8 +216,7 @@ fn least(a: u16, b: u16) -> u16
 
 // 3. The cell of the first job by the policy's key; SLOT_CELLS where there is no job.
 fn choose(policy: u8, cells: &[u8; SLOT_CELLS], left: &[u8; SLOT_CELLS]) -> usize
-    requires { ⌜ Low (now cells) × Low (now left) ⌝ }
-    ensures { λ r. ⌜ ((ts : Tasks) → TasksInRange ts → now (left .entry) ≡ leftTable ts → Cells ts slotCells (now (cells .entry)) → Chosen ts policy (now (cells .entry)) r) ⌝ }
+    ensures { λ r. ⌜ r ≡ firstCell policy (now (cells .entry)) (now (left .entry)) ⌝ }
 {
     let mut best = NO_CODE;
     let mut k = 0;
@@ -244,7 +233,7 @@ fn choose(policy: u8, cells: &[u8; SLOT_CELLS], left: &[u8; SLOT_CELLS]) -> usiz
 // The job in a cell runs: its work falls by 1.
 fn run(cells: [u8; SLOT_CELLS], at: usize) -> [u8; SLOT_CELLS]
     requires { ⌜ (at < slotCells) × (0 < getD cells at 0) ⌝ }
-    ensures { λ r. ⌜ ((ts : Tasks) → Cells ts slotCells cells → Leaves ts (keep hasWork (map (worked (jobIn ts at (getD cells at 0))) (jobsOf ts cells))) slotCells r) ⌝ }
+    ensures { λ r. ⌜ r ≡ workedIn cells at ⌝ }
 {
     let mut after = cells;
     after[at] = cells[at] - 1;
@@ -260,12 +249,12 @@ fn if_staying(work: u8, left: u8) -> u8
 
 // 4. Slots left falls by 1, and at 0 the job goes.
 fn age(cells: &[u8; SLOT_CELLS], left: &[u8; SLOT_CELLS]) -> [u8; CELLS]
-    ensures { λ r. ⌜ ((ts : Tasks) → TasksInRange ts → now (left .entry) ≡ leftTable ts → Cells ts slotCells (now (cells .entry)) → Leaves ts (keep stays (map tick (jobsOf ts (now (cells .entry))))) cellCount r) ⌝ }
+    ensures { λ r. ⌜ r ≡ aged (now (cells .entry)) (now (left .entry)) ⌝ }
 {
     let mut older = [0u8; CELLS];
     let mut k = 0;
     while k < CELLS {
-        older[k] = if_staying(cells[k + MAX_TASKS], left[k + MAX_TASKS]);
+        older[k] = if_staying(cells[MAX_TASKS + k], left[MAX_TASKS + k]);
         k += 1;
     }
     older

@@ -1,23 +1,27 @@
--- `policy::age` meets its contract: the loop fills the cells from the front.
+-- `policy::age` meets its contract: the loop writes the cells from the front.
 -- Assumes nothing.
-use mathlib.Core.Path.{refl}
-use Prim.Native.Nat.{_-_, _≤_}
-use Rattle.policy.specs.View.{cellCount, Filled}
-use Rattle.policy.proofs.Lists.{filled-none, filled-more}
-use Rattle.policy.proofs.Steps.{agedBy, aged-all}
+use mathlib.Core.Path.{_≡_, refl, sym}
+use mathlib.Core.List.{map}
+use Prim.Native.Nat.{_+_, _-_, _≤_}
+use Rattle.model.specs.Bytes.{overwrite}
+use Rattle.model.specs.Limits.{maxTasks}
+use Rattle.model.specs.Lists.{upFrom}
+use Rattle.words.proofs.Memory.{overwrite-none}
+use Rattle.policy.specs.View.{cellCount, stayingIn, aged}
+use Rattle.policy.proofs.Lists.{written-more, written-all}
 use borrow.Author.Needs.{needs}
 use native.Mathlib.Omega.{arith}
 use Rattle.policy.proofs.age.Statement.{statement}
 use Rattle.policy.proofs.age.Tie as tie
 
 abbrev Inv-loop : tie.InvT-loop
-Inv-loop cells left older₀ k₀ older k = (k ≤ cellCount) × Filled (agedBy cells left) cellCount k older
+Inv-loop cells left older₀ k₀ older k = (k ≤ cellCount) × (older ≡ overwrite older₀ 0 (map (stayingIn cells left) (upFrom maxTasks k)))
 
 abbrev μ-loop : tie.MeasureT-loop
 μ-loop cells left older₀ k₀ older k = cellCount - k
 
 loop-holds : tie.Need-loop-holds Inv-loop μ-loop
-loop-holds c = (omega arith, filled-none _ _ _ refl)
+loop-holds c = (omega arith, sym (overwrite-none _ 0))
 
 add-if-staying : tie.Need-add-if-staying Inv-loop μ-loop
 add-if-staying c = omega arith
@@ -46,10 +50,18 @@ loop-less c = omega arith
 loop-again : tie.Need-loop-again Inv-loop μ-loop
 loop-again c =
     let turn = c .before .before .before in
-    (omega arith, filled-more _ _ _ _ _ (turn .loop-test .taken) (c .if-staying .ensures) (turn .before .loop .inv .1))
+    let a = turn .before .before .args in
+    let k = turn .before .loop .k in (
+      omega arith,
+      written-more (stayingIn (a .cells .now) (a .left .now)) maxTasks _ 0 k k (maxTasks + k) (omega arith) refl (turn .loop-test .taken) (c .if-staying .ensures) (turn .before .loop .inv .1),
+    )
 
 returns : tie.Need-returns Inv-loop μ-loop
-returns c = λ ts r e h. aged-all ts _ _ e _ _ (c .loop-test .left) (c .before .loop .inv .1) r h
+unfolding aged
+returns c =
+    let head = c .before in
+    let a = head .before .args in
+    written-all (stayingIn (a .cells .now) (a .left .now)) maxTasks _ (head .loop .k) cellCount (omega arith) refl (head .loop .inv .1)
 
 pub age-spec : {M : Type 1} → statement M
 age-spec =

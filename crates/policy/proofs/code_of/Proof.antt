@@ -3,7 +3,7 @@
 use mathlib.Core.Path.{ap}
 use borrow.Author.Tests.{eq-eqb, ne-eqb}
 use Prim.Native.Nat.{_+_, _*_, _≤_}
-use Rattle.model.specs.Limits.{maxTasks, maxWindow}
+use Rattle.model.specs.Limits.{maxTasks}
 use Rattle.policy.specs.View.{keyNumber, keyIn, codeIn, places}
 use Rattle.policy.proofs.Keys.{key-low}
 use borrow.Author.Needs.{needs}
@@ -11,7 +11,7 @@ use native.Mathlib.Omega.{arith}
 use Rattle.policy.proofs.code_of.Statement.{statement}
 use Rattle.policy.proofs.code_of.Tie as tie
 
-low : (c : tie.After-key-of) → keyIn (c .before .before .args .policy) (c .before .before .args .k) (c .before .before .args .work) (c .before .before .args .left) ≤ keyNumber maxWindow maxTasks maxWindow
+low : (c : tie.After-key-of) → keyIn (c .before .before .args .policy) (c .before .before .args .k) (c .before .before .args .work) (c .before .before .args .left) ≤ keyNumber 255 maxTasks 255
 low c = let a = c .before .before .args in key-low (a .policy) (a .k) (a .work) (a .left) (omega arith) (omega arith)
 
 returns : tie.Need-returns

@@ -1,23 +1,26 @@
--- `policy::drop_hopeless` meets its contract: the loop fills the cells from the front.
+-- `policy::drop_hopeless` meets its contract: the loop writes the cells from the front.
 -- Assumes nothing.
-use mathlib.Core.Path.{refl}
+use mathlib.Core.Path.{_≡_, refl, sym}
+use mathlib.Core.List.{map}
 use Prim.Native.Nat.{_-_, _≤_}
-use Rattle.policy.specs.View.{slotCells, Filled}
-use Rattle.policy.proofs.Lists.{filled-none, filled-more}
-use Rattle.policy.proofs.Steps.{hopefulBy, hopeful-all}
+use Rattle.model.specs.Bytes.{overwrite}
+use Rattle.model.specs.Lists.{upFrom}
+use Rattle.words.proofs.Memory.{overwrite-none}
+use Rattle.policy.specs.View.{slotCells, hopefulIn, hopeful}
+use Rattle.policy.proofs.Lists.{written-more, written-all}
 use borrow.Author.Needs.{needs}
 use native.Mathlib.Omega.{arith}
 use Rattle.policy.proofs.drop_hopeless.Statement.{statement}
 use Rattle.policy.proofs.drop_hopeless.Tie as tie
 
 abbrev Inv-loop : tie.InvT-loop
-Inv-loop cells left kept₀ k₀ kept k = (k ≤ slotCells) × Filled (hopefulBy cells left) slotCells k kept
+Inv-loop cells left kept₀ k₀ kept k = (k ≤ slotCells) × (kept ≡ overwrite kept₀ 0 (map (hopefulIn cells left) (upFrom 0 k)))
 
 abbrev μ-loop : tie.MeasureT-loop
 μ-loop cells left kept₀ k₀ kept k = slotCells - k
 
 loop-holds : tie.Need-loop-holds Inv-loop μ-loop
-loop-holds c = (omega arith, filled-none _ _ _ refl)
+loop-holds c = (omega arith, sym (overwrite-none _ 0))
 
 element-copy-out-if-hopeful : tie.Need-element-copy-out-if-hopeful Inv-loop μ-loop
 element-copy-out-if-hopeful c = omega arith
@@ -40,10 +43,18 @@ loop-less c = omega arith
 loop-again : tie.Need-loop-again Inv-loop μ-loop
 loop-again c =
     let turn = c .before .before .before in
-    (omega arith, filled-more _ _ _ _ _ (turn .loop-test .taken) (c .if-hopeful .ensures) (turn .before .loop .inv .1))
+    let a = turn .before .before .args in
+    let k = turn .before .loop .k in (
+      omega arith,
+      written-more (hopefulIn (a .cells .now) (a .left .now)) 0 _ 0 k k k (omega arith) (omega arith) (turn .loop-test .taken) (c .if-hopeful .ensures) (turn .before .loop .inv .1),
+    )
 
 returns : tie.Need-returns Inv-loop μ-loop
-returns c = λ ts e h. hopeful-all ts _ _ e _ _ (c .loop-test .left) (c .before .loop .inv .1) h
+unfolding hopeful
+returns c =
+    let head = c .before in
+    let a = head .before .args in
+    written-all (hopefulIn (a .cells .now) (a .left .now)) 0 _ (head .loop .k) slotCells (omega arith) refl (head .loop .inv .1)
 
 pub drop-hopeless-spec : {M : Type 1} → statement M
 drop-hopeless-spec =

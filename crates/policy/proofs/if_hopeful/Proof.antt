@@ -5,10 +5,10 @@ use Rattle.policy.proofs.if_hopeful.Statement.{statement}
 use Rattle.policy.proofs.if_hopeful.Tie as tie
 
 returns : tie.Need-returns
-returns c = simp (le-leb _ _ (c .if1 .taken))
+returns c = let a = c .before .args in simp (le-leb (a .work) (a .left) (c .if1 .taken))
 
 returns-2 : tie.Need-returns-2
-returns-2 c = simp (lt-leb _ _ (c .if1 .left))
+returns-2 c = let a = c .before .args in simp (lt-leb (a .work) (a .left) (c .if1 .left))
 
 pub if-hopeful-spec : {M : Type 1} → statement M
 if-hopeful-spec = tie.close (tie.spec returns returns-2)

@@ -1,18 +1,23 @@
--- `policy::join` meets its contract: the loop adds the new jobs behind the cells.
+-- `policy::join` meets its contract: the loop writes the new jobs behind the cells.
 -- Assumes nothing.
-use Prim.Native.Nat.{_+_, _-_, _≤_}
+use mathlib.Core.Path.{_≡_, refl, sym, ap, ap₂, _∙_}
+use mathlib.Core.List.{map}
+use Prim.Native.Nat.{_+_, _-_, _≤_, _<_}
+use lib.ListN.{length, replicate, length-append}
+use Rattle.model.specs.Bytes.{overwrite}
 use Rattle.model.specs.Limits.{maxTasks}
+use Rattle.model.specs.Lists.{upFrom}
+use Rattle.words.proofs.Memory.{overwrite-none}
 use Rattle.plan.specs.View.{tasksOf}
-use Rattle.policy.specs.View.{Tasks, cellCount, slotCells, Filled}
-use Rattle.policy.proofs.NewJobs.{joined as joinedWork}
-use Rattle.policy.proofs.Steps.{joined-none, joined-more, joined-all}
+use Rattle.policy.specs.View.{cellCount, slotCells, newWork, joined as joinedCells}
+use Rattle.policy.proofs.Lists.{written-more, write-end, length-table}
 use borrow.Author.Needs.{needs}
 use native.Mathlib.Omega.{arith}
 use Rattle.policy.proofs.join.Statement.{statement}
 use Rattle.policy.proofs.join.Tie as tie
 
 abbrev Inv-loop : tie.InvT-loop
-Inv-loop tasks count label joined₀ i₀ joined i = (i ≤ maxTasks) × Filled (joinedWork (tasksOf tasks count) joined₀ label) slotCells (cellCount + i) joined
+Inv-loop tasks count label joined₀ i₀ joined i = (i ≤ maxTasks) × (joined ≡ overwrite joined₀ cellCount (map (newWork (tasksOf tasks count) label) (upFrom 0 i)))
 
 abbrev μ-loop : tie.MeasureT-loop
 μ-loop tasks count label joined₀ i₀ joined i = maxTasks - i
@@ -20,12 +25,8 @@ abbrev μ-loop : tie.MeasureT-loop
 widen-requires : tie.Need-widen-requires Inv-loop μ-loop
 widen-requires c κs = search needs
 
--- the tasks given
-abbrev given : tie.Start Inv-loop μ-loop → Tasks
-given c = tasksOf (c .args .tasks) (c .args .count)
-
 loop-holds : tie.Need-loop-holds Inv-loop μ-loop
-loop-holds c = (omega arith, joined-none (given (c .before)) _ (c .widen .result) (c .widen .ensures .size))
+loop-holds c = (omega arith, sym (overwrite-none _ cellCount))
 
 new-work-requires : tie.Need-new-work-requires Inv-loop μ-loop
 new-work-requires c κs = c .loop-test .taken
@@ -42,13 +43,33 @@ add-i c = omega arith
 loop-less : tie.Need-loop-less Inv-loop μ-loop
 loop-less c = omega arith
 
+-- the cells with room for new jobs
+size : (c : tie.After-widen Inv-loop μ-loop) → length (c .widen .result) ≡ slotCells
+size c =
+    let cells = c .before .args .cells in
+    ap length (c .widen .ensures) ∙ omega (arith, length-append cells (replicate maxTasks 0), c .before .good)
+
 loop-again : tie.Need-loop-again Inv-loop μ-loop
-loop-again c = (omega arith, joined-more (given (c .before .before .before .before)) _ (c .before .before .before .widen .result) _ _ _ (c .before .loop-test .taken) (c .new-work .ensures) (c .before .before .loop .inv .1))
+loop-again c =
+    let head = c .before .before in
+    let a = head .before .before .args in
+    let i = head .loop .i in
+    let room : cellCount + i < length (head .before .widen .result) = omega (arith, size (head .before)) in (
+      omega arith,
+      written-more (newWork (tasksOf (a .tasks) (a .count)) (a .label)) 0 (head .before .widen .result) cellCount i (cellCount + i) i refl (omega arith) room (c .new-work .ensures) (head .loop .inv .1),
+    )
 
 returns : tie.Need-returns Inv-loop μ-loop
+unfolding joinedCells
 returns c =
-    let start = c .before .before .before in
-    joined-all (given start) _ (c .before .before .widen .result) _ _ _ (c .loop-test .left) (c .before .before .widen .ensures) (c .before .loop .inv .1) (start .pre .0) (start .pre .1)
+    let head = c .before in
+    let start = head .before .before in
+    let a = start .args in
+    let new = newWork (tasksOf (a .tasks) (a .count)) (a .label) in
+    let end : head .loop .i ≡ maxTasks = omega arith in
+    head .loop .inv .1
+    ∙ ap₂ (λ wide i. overwrite wide cellCount (map new (upFrom 0 i))) (head .before .widen .ensures) end
+    ∙ write-end (a .cells) (replicate maxTasks 0) (map new (upFrom 0 maxTasks)) cellCount (omega (arith, start .good)) (length-table new maxTasks)
 
 pub join-spec : {M : Type 1} → statement M
 join-spec =

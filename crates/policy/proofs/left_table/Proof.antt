@@ -1,22 +1,26 @@
 -- `policy::left_table` meets its contract: the loop fills the table from the front.
 -- Assumes nothing.
-use mathlib.Core.Path.{refl}
+use mathlib.Core.Path.{_≡_, refl, sym}
+use mathlib.Core.List.{map}
 use Prim.Native.Nat.{_-_, _≤_}
-use Rattle.policy.specs.View.{slotCells, leftIn, Filled}
+use Rattle.model.specs.Bytes.{overwrite}
+use Rattle.model.specs.Lists.{upFrom}
+use Rattle.words.proofs.Memory.{overwrite-none}
 use Rattle.plan.specs.View.{tasksOf}
-use Rattle.policy.proofs.Lists.{filled-none, filled-more, filled-all}
+use Rattle.policy.specs.View.{slotCells, leftIn}
+use Rattle.policy.proofs.Lists.{written-more, written-all}
 use native.Mathlib.Omega.{arith}
 use Rattle.policy.proofs.left_table.Statement.{statement}
 use Rattle.policy.proofs.left_table.Tie as tie
 
 abbrev Inv-loop : tie.InvT-loop
-Inv-loop tasks count left₀ k₀ left k = (k ≤ slotCells) × Filled (leftIn (tasksOf tasks count)) slotCells k left
+Inv-loop tasks count left₀ k₀ left k = (k ≤ slotCells) × (left ≡ overwrite left₀ 0 (map (leftIn (tasksOf tasks count)) (upFrom 0 k)))
 
 abbrev μ-loop : tie.MeasureT-loop
 μ-loop tasks count left₀ k₀ left k = slotCells - k
 
 loop-holds : tie.Need-loop-holds Inv-loop μ-loop
-loop-holds c = (omega arith, filled-none _ _ _ refl)
+loop-holds c = (omega arith, sym (overwrite-none _ 0))
 
 left-in-requires : tie.Need-left-in-requires Inv-loop μ-loop
 left-in-requires c κs = omega arith
@@ -31,10 +35,17 @@ loop-less : tie.Need-loop-less Inv-loop μ-loop
 loop-less c = omega arith
 
 loop-again : tie.Need-loop-again Inv-loop μ-loop
-loop-again c = (omega arith, filled-more _ _ _ _ _ (c .before .loop-test .taken) (c .left-in .ensures) (c .before .before .loop .inv .1))
+loop-again c =
+    let head = c .before .before in
+    let k = head .loop .k in (
+      omega arith,
+      written-more (leftIn (tasksOf (head .before .args .tasks) (head .before .args .count))) 0 _ 0 k k k (omega arith) (omega arith) (c .before .loop-test .taken) (c .left-in .ensures) (head .loop .inv .1),
+    )
 
 returns : tie.Need-returns Inv-loop μ-loop
-returns c = filled-all _ _ _ _ _ (c .loop-test .left) (c .before .loop .inv .1) (λ j lt. refl)
+returns c =
+    let head = c .before in
+    written-all (leftIn (tasksOf (head .before .args .tasks) (head .before .args .count))) 0 _ (head .loop .k) slotCells (omega arith) refl (head .loop .inv .1)
 
 pub left-table-spec : {M : Type 1} → statement M
 left-table-spec =

@@ -5,8 +5,10 @@ use mathlib.Core.List.{_++_}
 use Prim.Native.Nat.{_<_}
 use Rattle.model.specs.Lists.{keep}
 use Rattle.model.specs.Slot.{canFinish, newJobs}
-use Rattle.policy.specs.View.{Tasks, slotCells, jobsOf, tasksIn, Leaves, Chosen, Ruled}
-use Rattle.policy.proofs.Keys.{low-cells, low-left}
+use Rattle.policy.specs.View.{Tasks, slotCells, jobsOf, tasksIn, Leaves, Ruled}
+use Rattle.policy.proofs.Cells.{hopeful-leaves, worked-leaves, aged-leaves}
+use Rattle.policy.proofs.NewJobs.{joined-leaves}
+use Rattle.policy.proofs.Keys.{Chosen, first-cell}
 use Rattle.policy.proofs.Rule.{slot-idle, slot-ran}
 use borrow.Author.Needs.{needs}
 use native.Mathlib.Omega.{arith}
@@ -24,18 +26,23 @@ module _ (d : tie.After-drop-hopeless) where
   ruled : Ruled (start d .args .rules)
   ruled = start d .pre .0
 
+  entered : Leaves (tasks d) (jobsOf (tasks d) (start d .args .cells) ++ newJobs (tasks d) (start d .args .label) 1) slotCells (d .before .before .before .join .result)
+  entered =
+      joined-leaves (tasks d) (start d .args .cells) (start d .args .label) (ruled .tasks) (start d .pre .1) (d .before .before .before .join .ensures)
+
   readied : Leaves (tasks d) (keep canFinish (jobsOf (tasks d) (d .before .before .before .join .result))) slotCells (d .drop-hopeless .result)
-  readied = d .drop-hopeless .ensures (tasks d) (ruled .left) (d .before .before .before .join .ensures .cells)
+  readied =
+      hopeful-leaves (tasks d) _ (ruled .left) (d .before .before .before .join .result) (entered .cells) (d .drop-hopeless .ensures)
 
   dropped : jobsOf (tasks d) (d .drop-hopeless .result)
       ≡ keep canFinish (jobsOf (tasks d) (start d .args .cells) ++ newJobs (tasks d) (start d .args .label) 1)
-  dropped = readied .jobs ∙ ap (keep canFinish) (d .before .before .before .join .ensures .jobs)
+  dropped = readied .jobs ∙ ap (keep canFinish) (entered .jobs)
 
 -- the job that is chosen
 chosen : (c : tie.After-choose) → Chosen (tasks (c .before .before .before)) (start (c .before .before .before) .args .rules .policy) (c .before .before .before .drop-hopeless .result) (c .choose .result)
 chosen c =
     let d = c .before .before .before in
-    c .choose .ensures (tasks d) (ruled d .tasks) (ruled d .left) (readied d .cells)
+    first-cell (tasks d) (start d .args .rules .policy) (ruled d .tasks) _ (ruled d .left) (d .drop-hopeless .result) (readied d .cells) (c .choose .ensures)
 
 inside : (c : tie.Else1) → c .before .choose .result < slotCells
 inside c = omega (arith, chosen (c .before) .bound, c .if1 .left)
@@ -47,9 +54,7 @@ drop-hopeless-requires : tie.Need-drop-hopeless-requires
 drop-hopeless-requires c κs = search needs
 
 choose-requires : tie.Need-choose-requires
-choose-requires c κs =
-    let d = c .before .before in
-    (low-cells (tasks d) slotCells _ (ruled d .tasks) (readied d .cells), low-left (tasks d) _ (ruled d .tasks) (ruled d .left))
+choose-requires c κs = search needs
 
 age-requires : tie.Need-age-requires
 age-requires c κs = search needs
@@ -58,7 +63,7 @@ returns : tie.Need-returns
 returns c =
     let ch = c .before .before .before .before in
     let d = ch .before .before .before in
-    let aged = c .age .ensures (tasks d) (ruled d .tasks) (ruled d .left) (readied d .cells) in
+    let aged = aged-leaves (tasks d) (ruled d .tasks) _ (ruled d .left) (d .drop-hopeless .result) (readied d .cells) (c .age .ensures) in
     record {
       rule = λ P same by. slot-idle P (tasks d) _ same by _ _ (d .drop-hopeless .result) (dropped d) (ch .choose .result) (c .before .before .before .if1 .taken) (chosen ch .choice) _ (aged .jobs);
       cells = aged .cells;
@@ -87,8 +92,9 @@ returns-2 c =
     let other = c .before .before .before .before .before in
     let ch = other .before in
     let d = ch .before .before .before in
-    let ran = c .before .before .before .run .ensures (tasks d) (readied d .cells) in
-    let aged = c .age2 .ensures (tasks d) (ruled d .tasks) (ruled d .left) (ran .cells) in
+    let run = c .before .before .before .run in
+    let ran = worked-leaves (tasks d) (d .drop-hopeless .result) (ch .choose .result) (readied d .cells) (inside other) (chosen ch .work (inside other)) (run .ensures) in
+    let aged = aged-leaves (tasks d) (ruled d .tasks) _ (ruled d .left) (run .result) (ran .cells) (c .age2 .ensures) in
     record {
       rule = λ P same by. slot-ran P (tasks d) _ same by _ _ (d .drop-hopeless .result) (dropped d) (ch .choose .result) (inside other) (chosen ch .choice) _ _ (ran .jobs) (aged .jobs) _ (c .before .before .before .before .gain-in .ensures);
       cells = aged .cells;

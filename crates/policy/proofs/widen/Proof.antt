@@ -1,51 +1,34 @@
--- `policy::widen` meets its contract: the loop copies the cells from the front.
+-- `policy::widen` meets its contract: the cells are copied over the front of free ones.
 -- Assumes nothing.
-use mathlib.Core.Path.{refl}
-use Prim.Native.Nat.{_-_, _≤_}
-use lib.ListN.{getD}
-use Rattle.policy.specs.View.{cellCount, slotCells, Filled}
-use Rattle.policy.proofs.Lists.{filled-none, filled-more}
+use mathlib.Core.Path.{_≡_, ap, _∙_}
+use Prim.Native.Nat.{_≤_}
 use native.Mathlib.Omega.{arith}
+use borrow.Author.Needs.{needs}
+use lib.ListN.{length, replicate}
+use lib.Seq.{take-all}
+use Rattle.model.specs.Bytes.{overwrite}
+use Rattle.policy.specs.View.{cellCount, slotCells}
+use Rattle.policy.proofs.Lists.{write-front}
 use Rattle.policy.proofs.widen.Statement.{statement}
 use Rattle.policy.proofs.widen.Tie as tie
 
-abbrev Inv-loop : tie.InvT-loop
-Inv-loop cells wide₀ k₀ wide k = (k ≤ cellCount) × Filled (λ j. getD cells j 0) slotCells k wide
+slice-aggregate-copy : tie.Need-slice-aggregate-copy
+slice-aggregate-copy c = search needs
 
-abbrev μ-loop : tie.MeasureT-loop
-μ-loop cells wide₀ k₀ wide k = cellCount - k
+slice-aggregate-copy-2 : tie.Need-slice-aggregate-copy-2
+slice-aggregate-copy-2 c = search needs
 
-loop-holds : tie.Need-loop-holds Inv-loop μ-loop
-loop-holds c = (omega arith, filled-none _ _ _ refl)
+copy-requires : tie.Need-copy-requires
+copy-requires c κs = search needs
 
-array-read-wide : tie.Need-array-read-wide Inv-loop μ-loop
-array-read-wide c = omega arith
-
-array-write-wide : tie.Need-array-write-wide Inv-loop μ-loop
-array-write-wide c = omega arith
-
-add-k : tie.Need-add-k Inv-loop μ-loop
-add-k c = omega arith
-
-loop-less : tie.Need-loop-less Inv-loop μ-loop
-loop-less c = omega arith
-
-loop-again : tie.Need-loop-again Inv-loop μ-loop
-loop-again c = (omega arith, filled-more _ _ _ _ _ (omega arith) refl (c .before .loop .inv .1))
-
-returns : tie.Need-returns Inv-loop μ-loop
-returns c = record { size = c .before .loop .inv .1 .size; below = λ j lt. c .before .loop .inv .1 .below j (omega arith) }
+returns : tie.Need-returns
+returns c =
+    let start = c .before .before .before .before in
+    let cells = start .args .t1 in
+    let size : length cells ≡ cellCount = omega (arith, start .good) in
+    let few : length cells ≤ cellCount = omega arith in
+    c .before .copy .ensures ∙ ap (overwrite (replicate slotCells 0) 0) (take-all cellCount cells few)
+    ∙ write-front (replicate slotCells 0) cells cellCount size
 
 pub widen-spec : {M : Type 1} → statement M
-widen-spec =
-    tie.close
-    (tie.spec
-    Inv-loop
-    μ-loop
-    loop-holds
-    array-read-wide
-    array-write-wide
-    add-k
-    loop-less
-    loop-again
-    returns)
+widen-spec = tie.close (tie.spec slice-aggregate-copy slice-aggregate-copy-2 copy-requires returns)
