@@ -3,12 +3,11 @@
 use mathlib.Core.Path.{_≡_, refl, sym, ap, ap₂, _∙_, subst}
 use mathlib.Core.Bool.{true}
 use mathlib.Core.List.{List, [], _++_}
-use Prim.Native.Nat.{ℕ, zero, suc, _+_, _-_, _^_, _≤_, _<_}
+use Prim.Native.Nat.{ℕ, zero, suc, _+_, _-_, _≤_, _<_}
 use native.Mathlib.Nat.{lt-of-lt-of-le}
 use native.Mathlib.Omega.{arith}
 use borrow.Author.Tests.{leb-true}
 use lib.ListN.{length, getD, drop, replicate, length-replicate, drop-of-length-le}
-use lib.Pow.{pow-mono}
 use Rattle.model.specs.Limits.{maxTasks}
 use Rattle.model.specs.Plan as model
 use Rattle.model.proofs.Plan.{Passes, fault-none, readFrom-at, readFrom-nil, task-follows, states-ranged, arc-ranged}
@@ -17,8 +16,8 @@ use Rattle.plan.specs.declared.Fault.{Fault}
 use Rattle.plan.specs.declared.Fault.the-variants.{BytesEnd, UnknownCommand, OutOfPlace, OutOfRange}
 use Rattle.plan.specs.declared.Outcome.{Outcome}
 use Rattle.plan.specs.declared.Outcome.the-variants.{Faulty}
-use Rattle.plan.specs.View.{faultNumber, checkNumber, answerWith, readingOf, nothingReadWith, arcsIn, arcsBelow, arcAt, labelCount, pairCount, Within, Holds, Readable, ReadableArc, Reads}
-use Rattle.plan.proofs.View.{task-count, least-rises}
+use Rattle.plan.specs.View.{faultNumber, checkNumber, answerWith, readingOf, nothingReadWith, arcsIn, arcsBelow, arcAt, pairCount, Within, Holds, Readable, ReadableArc, Reads}
+use Rattle.plan.proofs.View.{task-count, label-low, least-rises}
 
 -- the bytes before a place have been read
 pub record Reached (s next : List ℕ) (r : Reading) (at : ℕ) : Type 0 where
@@ -108,8 +107,7 @@ module _ (s next : List ℕ) (r : Reading) (at : ℕ) (h : Reached s next r at) 
   readable-arc e k =
       let p = passes e in
       let t = arc-ranged _ _ _ _ _ k (p .ranged) in
-      let low : getD s (at + 2) 0 < labelCount =
-      lt-of-lt-of-le (subst (λ (n : ℕ). getD s (at + 2) 0 < 2 ^ n) (task-count r (h .within)) (t .1)) (pow-mono (h .within .fits)) in
+      let low = label-low r (arcsIn next) _ _ _ _ (h .within) (p .ranged) k in
       let rises : model.rising (arcsIn next) (getD s (at + 1) 0) (getD s (at + 2) 0) ≡ true = simp k at (p .rises) in
       record {
         within = h .within;
@@ -118,7 +116,7 @@ module _ (s next : List ℕ) (r : Reading) (at : ℕ) (h : Reached s next r at) 
         from = lt-of-lt-of-le (t .0) (h .within .states);
         label = low;
         to = lt-of-lt-of-le (t .2) (h .within .states);
-        rises = leb-true _ _ (sym (least-rises next (r .least) (h .holds) .law _ _ low) ∙ rises);
+        rises = leb-true _ _ (sym (least-rises next (r .least) (h .holds) _ _ low) ∙ rises);
       }
 
   -- and then the bytes before the next one have been

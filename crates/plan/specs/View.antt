@@ -1,10 +1,10 @@
 -- What the reader's structs and enums stand for.
 use mathlib.Core.Path.{_≡_}
-use mathlib.Core.Bool.{false}
+use mathlib.Core.Bool.{Bool, true, false, cond}
 use mathlib.Core.List.{List, [], _∷_, _++_, map}
 use mathlib.Core.Option.{Option, none, some}
 use Prim.Native.Nat.{ℕ, zero, suc, _+_, _*_, _/_, _%_, _^_, _<_, _≤_}
-use lib.Dec.{leb}
+use lib.Dec.{leb, ltb, eqb}
 use lib.ListN.{length, getD, take}
 use Rattle.model.specs.Limits.{maxTasks, maxStates}
 use Rattle.model.specs.Refusals.{bytesEnd, unknownCommand, outOfPlace, outOfRange}
@@ -75,6 +75,16 @@ readingOf r arcs = record { tasks = tasksOf (r .tasks) (r .count); policy = r .p
 abbrev pub nothingReadWith : List model.Arc → model.Reading
 nothingReadWith arcs = record { tasks = []; policy = 0; states = 0; arcs = arcs; ended = false }
 
+-- whether an arc's pair is the least one that rises or above it; no other command has one
+abbrev pub fromLeast : ℕ → ℕ → ℕ → ℕ → Bool
+fromLeast least c s l = cond (eqb c 4) (leb least (s * labelCount + l)) true
+
+-- the fault of a command, by the least pair that rises instead of the arcs
+abbrev pub faultFromLeast : Reading → ℕ → ℕ → ℕ → ℕ → ℕ → ℕ
+faultFromLeast r left c x y z =
+    model.firstFault (r .ended) (model.unknown c) (model.mayFollow (readingOf r []) c) (ltb left (model.width c))
+    (model.inRange (readingOf r []) c x y z) (fromLeast (r .least) c x y)
+
 -- the answer of an outcome, where a plan without a fault is this one
 abbrev pub answerWith : Outcome → model.Plan → model.PlanAnswer
 answerWith Sound P = model.sound P
@@ -98,10 +108,6 @@ pub record Within (r : Reading) : Type 0 where
   pub fits : r .count ≤ maxTasks
   pub room : length (r .tasks) ≡ maxTasks
   pub states : r .states ≤ maxStates
-
--- a pair rises above the arcs exactly from the least one on
-pub record Least (arcs : List model.Arc) (least : ℕ) : Type 0 where
-  pub law : (s l : ℕ) → l < labelCount → model.rising arcs s l ≡ leb least (s * labelCount + l)
 
 -- the table has no arc from the least pair on, and one just below it
 pub record Holds (next : List ℕ) (least : ℕ) : Type 0 where

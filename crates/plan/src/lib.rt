@@ -2,11 +2,11 @@
 use node::Node;
 ghost use mathlib.Core.Path.{_≡_};
 ghost use Prim.Native.Nat.{_+_, _*_, _^_, _<_, _≤_};
-ghost use mathlib.Core.List.{List};
+ghost use mathlib.Core.List.{List, []};
 ghost use lib.ListN.{getD, replicate};
-ghost use Rattle.model.specs.Plan.{Arc, nextIn, width, mayFollow, between, taskInRange, arcInRange, inRange, pairRises, firstFault, fault, readPlan};
+ghost use Rattle.model.specs.Plan.{Arc, nextIn, width, mayFollow, between, taskInRange, arcInRange, inRange, firstFault, readPlan};
 ghost use Rattle.model.specs.Limits.{maxTasks, maxStates};
-ghost use Rattle.plan.specs.View.{faultNumber, checkNumber, answerOf, answerWith, planRead, readingOf, nothingReadWith, arcsIn, nextOf, labelCount, pairCount, Sized, Within, Least, Holds, Readable, ReadableArc, Reads, ReadsAside};
+ghost use Rattle.plan.specs.View.{faultNumber, checkNumber, answerOf, answerWith, planRead, readingOf, nothingReadWith, arcsIn, nextOf, labelCount, pairCount, fromLeast, faultFromLeast, Sized, Within, Holds, Readable, ReadableArc, Reads, ReadsAside};
 
 const MAX_TASKS: usize = Node::MAX_TASKS;
 
@@ -101,7 +101,7 @@ fn byte_at(s: &[u8], at: usize) -> u8
 // Whether a command may follow those read.
 fn may_follow(r: Reading, c: u8) -> bool
     requires { ⌜ Within r ⌝ }
-    ensures { λ b. ⌜ ((arcs : List Arc) → b ≡ mayFollow (readingOf r arcs) c) ⌝ }
+    ensures { λ b. ⌜ b ≡ mayFollow (readingOf r []) c ⌝ }
 {
     let policy = r.policy;
     let states = r.states;
@@ -145,7 +145,7 @@ fn labels(count: usize) -> usize
 // Whether an arc's states and label are in range.
 fn arc_in_range(r: Reading, s: u8, l: u8, t: u8) -> bool
     requires { ⌜ Within r ⌝ }
-    ensures { λ b. ⌜ ((arcs : List Arc) → b ≡ arcInRange (readingOf r arcs) s l t) ⌝ }
+    ensures { λ b. ⌜ b ≡ arcInRange (readingOf r []) s l t ⌝ }
 {
     let states = r.states;
     if states <= s {
@@ -170,7 +170,7 @@ fn up_to(n: u8, limit: u8) -> bool
 // Whether a command's operands are in range.
 fn in_range(r: Reading, c: u8, x: u8, y: u8, z: u8) -> bool
     requires { ⌜ Within r ⌝ }
-    ensures { λ b. ⌜ ((arcs : List Arc) → b ≡ inRange (readingOf r arcs) c x y z) ⌝ }
+    ensures { λ b. ⌜ b ≡ inRange (readingOf r []) c x y z ⌝ }
 {
     match c {
         1 => task_in_range(x, y, z),
@@ -202,7 +202,7 @@ pub fn next_state(next: &[u8; PAIRS], s: u8, l: u8) -> u8
 
 // Whether an arc's pair rises above those before it; no other command has one.
 fn pair_rises(r: Reading, c: u8, s: u8, l: u8) -> bool
-    ensures { λ b. ⌜ ((arcs : List Arc) → Least arcs (r .least) → (c ≡ 4 → l < labelCount) → b ≡ pairRises (readingOf r arcs) c s l) ⌝ }
+    ensures { λ b. ⌜ b ≡ fromLeast (r .least) c s l ⌝ }
 {
     if c == 4 { r.least <= pair(s, l) } else { true }
 }
@@ -242,7 +242,7 @@ fn first_fault(
 // The fault of a command with `left` bytes from it on.
 fn fault_of(r: Reading, left: usize, c: u8, x: u8, y: u8, z: u8) -> Outcome
     requires { ⌜ Within r ⌝ }
-    ensures { λ o. ⌜ ((arcs : List Arc) → Least arcs (r .least) → checkNumber o ≡ fault (readingOf r arcs) left c x y z) ⌝ }
+    ensures { λ o. ⌜ checkNumber o ≡ faultFromLeast r left c x y z ⌝ }
 {
     let ended = r.ended;
     let unknown = !up_to(c, 5);

@@ -10,7 +10,7 @@ use lib.ListN.{length, getD}
 use Rattle.model.specs.Plan.{fault}
 use Rattle.model.proofs.Plan.{width-pos}
 use Rattle.plan.specs.View.{checkNumber, readingOf, arcsIn}
-use Rattle.plan.proofs.View.{least-rises}
+use Rattle.plan.proofs.View.{fault-from-least}
 use Rattle.plan.proofs.Turn.{Reached, faultHere, reached-start, reached-end, reached-next, readable, readable-arc, refused}
 use Rattle.plan.proofs.read.Statement.{statement}
 use Rattle.plan.proofs.read.Tie as tie
@@ -75,7 +75,8 @@ module _ (c : tie.After-fault-of Inv-loop μ-loop) where
   found : checkNumber (c .fault-of .result)
       ≡ faultHere (bytes (head c)) (head c .loop .next) (head c .loop .r) (head c .loop .at) (head c .loop .inv) more
   found =
-      c .fault-of .ensures (arcsIn (head c .loop .next)) (least-rises _ _ (head c .loop .inv .holds))
+      c .fault-of .ensures
+      ∙ fault-from-least _ _ _ _ _ _ _ (head c .loop .inv .within) (head c .loop .inv .holds)
       ∙ (λ i. fault (readingOf (head c .loop .r) (arcsIn (head c .loop .next))) (length (bytes (head c)) - head c .loop .at)
       (getD (bytes (head c)) (head c .loop .at) 0)
       (c .before .before .before .byte-at .ensures i) (c .before .before .byte-at2 .ensures i) (c .before .byte-at3 .ensures i))
