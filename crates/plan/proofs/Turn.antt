@@ -1,14 +1,13 @@
 -- A turn of the reader: what holds before each command, and how a command keeps it.
 -- Assumes nothing.
 use mathlib.Core.Path.{_≡_, refl, sym, ap, ap₂, _∙_, subst}
-use mathlib.Core.Bool.{true}
+use mathlib.Core.Bool.{true, false}
 use mathlib.Core.List.{List, [], _++_}
-use Prim.Native.Nat.{ℕ, zero, suc, _+_, _-_, _^_, _≤_, _<_}
+use Prim.Native.Nat.{ℕ, zero, suc, _+_, _-_, _≤_, _<_}
 use native.Mathlib.Nat.{lt-of-lt-of-le}
 use native.Mathlib.Omega.{arith}
 use borrow.Author.Tests.{leb-true}
 use lib.ListN.{length, getD, drop, replicate, length-replicate, drop-of-length-le}
-use lib.Pow.{pow-mono}
 use Rattle.model.specs.Limits.{maxTasks}
 use Rattle.model.specs.Plan as model
 use Rattle.model.proofs.Plan.{Passes, fault-none, readFrom-at, readFrom-nil, task-follows, states-ranged, arc-ranged}
@@ -16,9 +15,11 @@ use Rattle.plan.specs.declared.Reading.{Reading}
 use Rattle.plan.specs.declared.Fault.{Fault}
 use Rattle.plan.specs.declared.Fault.the-variants.{BytesEnd, UnknownCommand, OutOfPlace, OutOfRange}
 use Rattle.plan.specs.declared.Outcome.{Outcome}
-use Rattle.plan.specs.declared.Outcome.the-variants.{Faulty}
-use Rattle.plan.specs.View.{faultNumber, checkNumber, answerWith, readingOf, nothingReadWith, arcsIn, arcsBelow, arcAt, labelCount, pairCount, Within, Holds, Readable, ReadableArc, Reads}
-use Rattle.plan.proofs.View.{task-count, least-rises}
+use Rattle.plan.specs.declared.Outcome.the-variants.{Sound, Faulty}
+use Rattle.plan.specs.declared.PlanRead.{PlanRead}
+use Rattle.plan.specs.declared.Task.{Task}
+use Rattle.plan.specs.View.{faultNumber, checkNumber, noTask, readingOf, nothingRead, emptyTable, answerOf, answered, refusal, FaultAlone, Sized, arcsIn, arcsBelow, arcAt, pairCount, Within, Holds, Readable, ReadableArc, Reads}
+use Rattle.plan.proofs.View.{task-count, label-low, least-rises}
 
 -- the bytes before a place have been read
 pub record Reached (s next : List ℕ) (r : Reading) (at : ℕ) : Type 0 where
@@ -27,42 +28,77 @@ pub record Reached (s next : List ℕ) (r : Reading) (at : ℕ) : Type 0 where
   pub holds : Holds next (r .least)
   pub rest : model.readPlan s ≡ model.readFrom (drop at s) (readingOf r (arcsIn next))
 
-abbrev pub zeros : ℕ → List ℕ
-zeros n = replicate n 0
+-- every entry of a list of defaults is the default
+getD-default : {A : Type 0} (n k : ℕ) (d : A) → getD (replicate n d) k d ≡ d
+getD-default zero k d = refl
+getD-default (suc n) zero d = refl
+getD-default (suc n) (suc k) d = getD-default n k d
 
 -- a table of zeros has no arc
-getD-zeros : (n k : ℕ) → getD (zeros n) k 0 ≡ 0
-getD-zeros zero k = refl
-getD-zeros (suc n) zero = refl
-getD-zeros (suc n) (suc k) = getD-zeros n k
+empty-below : (n k : ℕ) → arcsBelow (replicate n 0) k ≡ []
+empty-below n zero = refl
+empty-below n (suc k) = ap₂ (λ (as′ : List model.Arc) (t : ℕ). as′ ++ arcAt k t) (empty-below n k) (getD-default n k 0)
 
-empty-table : (n k : ℕ) → arcsBelow (zeros n) k ≡ []
-empty-table n zero = refl
-empty-table n (suc k) = ap₂ (λ (as′ : List model.Arc) (t : ℕ). as′ ++ arcAt k t) (empty-table n k) (getD-zeros n k)
+empty-arcs : arcsIn emptyTable ≡ []
+unfolding arcsIn
+empty-arcs = empty-below pairCount pairCount
 
-empty-holds : (least : ℕ) → least ≡ 0 → Holds (zeros pairCount) least
-empty-holds least e = record {
+empty-holds : Holds emptyTable 0
+empty-holds = record {
   size = length-replicate {A = ℕ} pairCount 0;
   within = omega arith;
-  above = λ k h. getD-zeros pairCount k;
+  above = λ k h. getD-default pairCount k 0;
   below = λ m f z. omega arith;
 }
 
--- before the first command
-pub reached-start : (s next : List ℕ) (r : Reading) → next ≡ zeros pairCount → Within r → r .least ≡ 0 →
-    ((arcs : List model.Arc) → readingOf r arcs ≡ nothingReadWith arcs) → Reached s next r 0
-unfolding model.readPlan arcsIn
-reached-start s next r z w l e = record {
-  inside = omega arith;
-  within = w;
-  holds = rw z (empty-holds (r .least) l);
-  rest = ap (model.readFrom s) (sym (e (arcsBelow next pairCount) ∙ ap nothingReadWith (rw z (empty-table pairCount pairCount))));
+nothing-within : Within nothingRead
+nothing-within = record {
+  fits = omega arith;
+  room = length-replicate {A = Task} maxTasks noTask;
+  spare = λ k h. getD-default maxTasks k noTask;
+  states = omega arith;
 }
 
+-- before the first command
+pub reached-start : (s next : List ℕ) (r : Reading) → next ≡ emptyTable → r ≡ nothingRead → Reached s next r 0
+unfolding model.readPlan
+reached-start s next r t e = rw (t, e) (record {
+  inside = omega arith;
+  within = nothing-within;
+  holds = empty-holds;
+  rest = ap (λ (arcs : List model.Arc). model.readFrom s (readingOf nothingRead arcs)) (sym empty-arcs);
+})
+
+-- what the reader says of its answer
+abbrev pub Answers : List ℕ → PlanRead → Type 0
+Answers s a = Sized (a .plan) × (answerOf a ≡ model.readPlan s) × FaultAlone a
+
+sized : (o : Outcome) (next : List ℕ) (r : Reading) → Within r → Holds next (r .least) → Sized (answered o r next .plan)
+sized o next r w h = record { fits = w .fits; room = w .room; spare = w .spare; table = h .size }
+
+-- a fault is the answer
+answers-fault : (s : List ℕ) (a : PlanRead) (f : Fault) → a ≡ refusal f → model.readPlan s ≡ model.faulty (faultNumber f) → Answers s a
+answers-fault s a f e k =
+    rw e (sized (Faulty f) emptyTable nothingRead nothing-within empty-holds, sym k, record { empty = λ g q. ap refusal (same g q) })
+  where
+    same : (g : Fault) → _≡_ {A = Outcome} (Faulty f) (Faulty g) → f ≡ g
+    same g q = cc
+
 -- past the last command
-pub reached-end : (s next : List ℕ) (r : Reading) (at : ℕ) → Reached s next r at → length s ≤ at → model.readPlan s ≡ model.atEnd (readingOf r (arcsIn next))
-reached-end s next r at h e =
-    h .rest ∙ ap (λ (l : List ℕ). model.readFrom l (readingOf r (arcsIn next))) (drop-of-length-le s e) ∙ readFrom-nil (readingOf r (arcsIn next))
+module _ (s next : List ℕ) (r : Reading) (at : ℕ) (h : Reached s next r at) (e : length s ≤ at) where
+  at-end : model.readPlan s ≡ model.atEnd (readingOf r (arcsIn next))
+  at-end =
+      h .rest ∙ ap (λ (l : List ℕ). model.readFrom l (readingOf r (arcsIn next))) (drop-of-length-le s e) ∙ readFrom-nil (readingOf r (arcsIn next))
+
+  pub answers-plan : (a : PlanRead) → a ≡ answered Sound r next → r .ended ≡ true → Answers s a
+  answers-plan a k d =
+      rw k (sized Sound next r (h .within) (h .holds), sym (at-end ∙ simp d), record { empty = λ f q. absurd (never f q) })
+    where
+      never : (f : Fault) → _≡_ {A = Outcome} Sound (Faulty f) → ⊥
+      never f q = let z : _≡_ {A = ℕ} 0 1 = cc in omega arith
+
+  pub answers-short : (a : PlanRead) → a ≡ refusal BytesEnd → r .ended ≡ false → Answers s a
+  answers-short a k d = answers-fault s a BytesEnd k (at-end ∙ simp d)
 
 -- where a command is due
 module _ (s next : List ℕ) (r : Reading) (at : ℕ) (h : Reached s next r at) (more : at < length s) where
@@ -77,17 +113,16 @@ module _ (s next : List ℕ) (r : Reading) (at : ℕ) (h : Reached s next r at) 
   step : model.readPlan s ≡ model.refusedOr faultHere rest
   step = h .rest ∙ readFrom-at s at (readingOf r (arcsIn next)) more
 
-  refusal : (f : Fault) (a : model.PlanAnswer) → model.refusedOr (faultNumber f) a ≡ model.faulty (faultNumber f)
-  refusal BytesEnd a = refl
-  refusal UnknownCommand a = refl
-  refusal OutOfPlace a = refl
-  refusal OutOfRange a = refl
+  refusal-first : (f : Fault) (a : model.PlanAnswer) → model.refusedOr (faultNumber f) a ≡ model.faulty (faultNumber f)
+  refusal-first BytesEnd a = refl
+  refusal-first UnknownCommand a = refl
+  refusal-first OutOfPlace a = refl
+  refusal-first OutOfRange a = refl
 
   -- a fault is the answer
-  pub refused : (o : Outcome) (f : Fault) (P : model.Plan) → o ≡ Faulty f → checkNumber o ≡ faultHere → answerWith o P ≡ model.readPlan s
-  refused o f P k e =
-      ap (λ (u : Outcome). answerWith u P) k
-      ∙ sym (step ∙ ap (λ (n : ℕ). model.refusedOr n rest) (sym e ∙ ap checkNumber k) ∙ refusal f rest)
+  pub answers-found : (a : PlanRead) (o : Outcome) (f : Fault) → a ≡ refusal f → o ≡ Faulty f → checkNumber o ≡ faultHere → Answers s a
+  answers-found a o f r′ k e =
+      answers-fault s a f r′ (step ∙ ap (λ (n : ℕ). model.refusedOr n rest) (sym e ∙ ap checkNumber k) ∙ refusal-first f rest)
 
   passes : 0 ≡ faultHere → Passes (readingOf r (arcsIn next)) (getD s at 0) (getD s (at + 1) 0) (getD s (at + 2) 0) (getD s (at + 3) 0)
   passes e = fault-none (readingOf r (arcsIn next)) (length s - at) _ _ _ _ (sym e) .0
@@ -108,8 +143,7 @@ module _ (s next : List ℕ) (r : Reading) (at : ℕ) (h : Reached s next r at) 
   readable-arc e k =
       let p = passes e in
       let t = arc-ranged _ _ _ _ _ k (p .ranged) in
-      let low : getD s (at + 2) 0 < labelCount =
-      lt-of-lt-of-le (subst (λ (n : ℕ). getD s (at + 2) 0 < 2 ^ n) (task-count r (h .within)) (t .1)) (pow-mono (h .within .fits)) in
+      let low = label-low r (arcsIn next) _ _ _ _ (h .within) (p .ranged) k in
       let rises : model.rising (arcsIn next) (getD s (at + 1) 0) (getD s (at + 2) 0) ≡ true = simp k at (p .rises) in
       record {
         within = h .within;
@@ -118,7 +152,7 @@ module _ (s next : List ℕ) (r : Reading) (at : ℕ) (h : Reached s next r at) 
         from = lt-of-lt-of-le (t .0) (h .within .states);
         label = low;
         to = lt-of-lt-of-le (t .2) (h .within .states);
-        rises = leb-true _ _ (sym (least-rises next (r .least) (h .holds) .law _ _ low) ∙ rises);
+        rises = leb-true _ _ (sym (least-rises next (r .least) (h .holds) _ _ low) ∙ rises);
       }
 
   -- and then the bytes before the next one have been

@@ -1,23 +1,24 @@
 -- Laws of what the reader's structs stand for: the tasks and the table of next states.
 -- Assumes nothing.
-use mathlib.Core.Path.{_≡_, refl, sym, ap, ap₂, _∙_}
+use mathlib.Core.Path.{_≡_, refl, sym, ap, ap₂, _∙_, subst}
 use mathlib.Core.Bool.{Bool, true, false, cond, _&&_, _||_, and-false}
 use mathlib.Core.List.{List, [], _∷_, _++_, append-nil}
 use mathlib.Core.Option.{Option, none, some}
-use Prim.Native.Nat.{ℕ, zero, suc, _+_, _-_, _*_, _/_, _%_, _≤_, _<_}
-use native.Mathlib.Nat.{add-zero, add-suc, add-sub-of-le, suc-inj, suc-ne-zero}
+use Prim.Native.Nat.{ℕ, zero, suc, _+_, _-_, _*_, _/_, _%_, _^_, _≤_, _<_}
+use native.Mathlib.Nat.{lt-of-lt-of-le, add-zero, add-suc, add-sub-of-le, suc-inj, suc-ne-zero}
 use native.Mathlib.Omega.{arith}
 use borrow.Author.Tests.{lt-ltb, le-ltb, le-leb, lt-leb, eq-eqb, ne-eqb, ltb-true, ltb-false, eqb-true, eqb-false}
 use lib.Dec.{leb, ltb, eqb, leb·zero}
 use lib.ListN.{length, getD, take, set, length-map, length-set}
 use lib.Seq.{length-take-le, getD-set-same, getD-set-other}
+use lib.Pow.{pow-mono}
 use Rattle.model.specs.Limits.{maxStates}
 use Rattle.model.specs.Plan as model
-use Rattle.model.specs.Plan.{Arc, isArc, nextIn, rising, pairBelow}
-use Rattle.model.proofs.Plan.{rising-last}
+use Rattle.model.specs.Plan.{Arc, isArc, nextIn, rising, pairBelow, pairRises, unknown, width, mayFollow, arcInRange, inRange, firstFault, fault}
+use Rattle.model.proofs.Plan.{rising-last, ranged-first, arc-ranged}
 use Rattle.plan.specs.declared.Reading.{Reading}
 use Rattle.plan.specs.declared.Outcome.{Outcome}
-use Rattle.plan.specs.View.{taskView, tasksOf, labelCount, pairCount, arcAt, arcsBelow, arcsIn, nextOf, answerWith, Within, Least, Holds}
+use Rattle.plan.specs.View.{taskView, tasksOf, labelCount, pairCount, arcAt, arcsBelow, arcsIn, nextOf, readingOf, fromLeast, faultFromLeast, answerWith, Within, Holds}
 
 -- as many tasks as the count says
 pub task-count : (r : Reading) → Within r → length (tasksOf (r .tasks) (r .count)) ≡ r .count
@@ -60,13 +61,39 @@ pair-order m t s l h = go (ltb (m / labelCount) s) (eqb (m / labelCount) s) (ltb
     go false false c p q r = sym (lt-leb (suc m) (s * labelCount + l) (omega (arith, ltb-false, eqb-false)))
 
 -- a pair rises above the table's arcs from the least one on
-pub least-rises : (next : List ℕ) (least : ℕ) → Holds next least → Least (arcsIn next) least
-least-rises next zero h = record { law = λ s l low. ap (λ (as′ : List Arc). rising as′ s l) (arcs-held next 0 h) ∙ sym (leb·zero (s * labelCount + l)) }
-least-rises next (suc m) h = record { law = λ s l low. ap (λ (as′ : List Arc). rising as′ s l) (arcs-held next (suc m) h) ∙ last s l low (getD next m 0) refl }
+pub least-rises : (next : List ℕ) (least : ℕ) → Holds next least → (s l : ℕ) → l < labelCount → rising (arcsIn next) s l ≡ leb least (s * labelCount + l)
+least-rises next zero h s l low = ap (λ (as′ : List Arc). rising as′ s l) (arcs-held next 0 h) ∙ sym (leb·zero (s * labelCount + l))
+least-rises next (suc m) h s l low = ap (λ (as′ : List Arc). rising as′ s l) (arcs-held next (suc m) h) ∙ last (getD next m 0) refl
   where
-    last : (s l : ℕ) → l < labelCount → (v : ℕ) → getD next m 0 ≡ v → rising (arcsBelow next m ++ arcAt m v) s l ≡ leb (suc m) (s * labelCount + l)
-    last s l low zero e = absurd (h .below m refl e)
-    last s l low (suc t) e = rising-last (arcsBelow next m) (arcOf m t) s l ∙ pair-order m t s l low
+    last : (v : ℕ) → getD next m 0 ≡ v → rising (arcsBelow next m ++ arcAt m v) s l ≡ leb (suc m) (s * labelCount + l)
+    last zero e = absurd (h .below m refl e)
+    last (suc t) e = rising-last (arcsBelow next m) (arcOf m t) s l ∙ pair-order m t s l low
+
+-- an arc in range has a label of the table
+pub label-low : (r : Reading) (arcs : List Arc) (c x y z : ℕ) → Within r → inRange (readingOf r arcs) c x y z ≡ true → c ≡ 4 → y < labelCount
+label-low r arcs c x y z w h e =
+    lt-of-lt-of-le (subst (λ (n : ℕ). y < 2 ^ n) (task-count r w) (arc-ranged _ _ _ _ _ e h .1)) (pow-mono (w .fits))
+
+-- where the operands are in range, the least pair tells whether an arc's rises
+from-least : (r : Reading) (next : List ℕ) (c x y z : ℕ) → Within r → Holds next (r .least) →
+    inRange (readingOf r (arcsIn next)) c x y z ≡ true → fromLeast (r .least) c x y ≡ pairRises (readingOf r (arcsIn next)) c x y
+from-least r next c x y z w h g = go (eqb c 4) refl
+  where
+    go : (b : Bool) → eqb c 4 ≡ b → cond b (leb (r .least) (x * labelCount + y)) true ≡ cond b (rising (arcsIn next) x y) true
+    go true e = sym (least-rises next (r .least) h x y (label-low r (arcsIn next) c x y z w g (eqb-true c 4 e)))
+    go false e = refl
+
+-- the fault by the least pair is the definition's
+pub fault-from-least : (r : Reading) (next : List ℕ) (left c x y z : ℕ) → Within r → Holds next (r .least) →
+    faultFromLeast r left c x y z ≡ fault (readingOf r (arcsIn next)) left c x y z
+unfolding fault mayFollow inRange arcInRange
+fault-from-least r next left c x y z w h = go (inRange (readingOf r (arcsIn next)) c x y z) refl
+  where
+    go : (g : Bool) → inRange (readingOf r (arcsIn next)) c x y z ≡ g →
+        firstFault (r .ended) (unknown c) (mayFollow (readingOf r []) c) (ltb left (width c)) g (fromLeast (r .least) c x y)
+        ≡ firstFault (r .ended) (unknown c) (mayFollow (readingOf r (arcsIn next)) c) (ltb left (width c)) g (pairRises (readingOf r (arcsIn next)) c x y)
+    go true g = ap (firstFault (r .ended) (unknown c) (mayFollow (readingOf r []) c) (ltb left (width c)) true) (from-least r next c x y z w h g)
+    go false g = ranged-first (r .ended) (unknown c) (mayFollow (readingOf r []) c) (ltb left (width c)) _ _
 
 -- the table with one more arc, whose pair rises
 module _ (next : List ℕ) (least k t : ℕ) (h : Holds next least) (rises : least ≤ k) (fits : k < pairCount) where

@@ -1,11 +1,11 @@
 -- What the reader's structs and enums stand for.
 use mathlib.Core.Path.{_≡_}
-use mathlib.Core.Bool.{false}
+use mathlib.Core.Bool.{Bool, true, false, cond}
 use mathlib.Core.List.{List, [], _∷_, _++_, map}
 use mathlib.Core.Option.{Option, none, some}
 use Prim.Native.Nat.{ℕ, zero, suc, _+_, _*_, _/_, _%_, _^_, _<_, _≤_}
-use lib.Dec.{leb}
-use lib.ListN.{length, getD, take}
+use lib.Dec.{leb, ltb, eqb}
+use lib.ListN.{length, getD, take, replicate}
 use Rattle.model.specs.Limits.{maxTasks, maxStates}
 use Rattle.model.specs.Refusals.{bytesEnd, unknownCommand, outOfPlace, outOfRange}
 use Rattle.model.specs.Plan as model
@@ -29,6 +29,10 @@ faultNumber OutOfRange = outOfRange
 abbrev pub checkNumber : Outcome → ℕ
 checkNumber Sound = 0
 checkNumber (Faulty f) = faultNumber f
+
+-- what stands past the tasks given
+abbrev pub noTask : Task
+noTask = record { work = 0; window = 0; value = 0 }
 
 abbrev pub taskView : Task → model.Task
 taskView t = record { work = t .work; window = t .window; value = t .value }
@@ -72,8 +76,23 @@ planOf p = record { tasks = tasksOf (p .tasks) (p .count); policy = p .policy; s
 abbrev pub readingOf : Reading → List model.Arc → model.Reading
 readingOf r arcs = record { tasks = tasksOf (r .tasks) (r .count); policy = r .policy; states = r .states; arcs = arcs; ended = r .ended }
 
-abbrev pub nothingReadWith : List model.Arc → model.Reading
-nothingReadWith arcs = record { tasks = []; policy = 0; states = 0; arcs = arcs; ended = false }
+-- before the first command
+abbrev pub nothingRead : Reading
+nothingRead = record { tasks = replicate maxTasks noTask; count = 0; policy = 0; states = 0; least = 0; ended = false }
+
+-- a table without an arc
+abbrev pub emptyTable : List ℕ
+emptyTable = replicate pairCount 0
+
+-- whether an arc's pair is the least one that rises or above it; no other command has one
+abbrev pub fromLeast : ℕ → ℕ → ℕ → ℕ → Bool
+fromLeast least c s l = cond (eqb c 4) (leb least (s * labelCount + l)) true
+
+-- the fault of a command, by the least pair that rises instead of the arcs
+abbrev pub faultFromLeast : Reading → ℕ → ℕ → ℕ → ℕ → ℕ → ℕ
+faultFromLeast r left c x y z =
+    model.firstFault (r .ended) (model.unknown c) (model.mayFollow (readingOf r []) c) (ltb left (model.width c))
+    (model.inRange (readingOf r []) c x y z) (fromLeast (r .least) c x y)
 
 -- the answer of an outcome, where a plan without a fault is this one
 abbrev pub answerWith : Outcome → model.Plan → model.PlanAnswer
@@ -84,24 +103,32 @@ answerWith (Faulty f) P = model.faulty (faultNumber f)
 abbrev pub answerOf : PlanRead → model.PlanAnswer
 answerOf a = answerWith (a .outcome) (planOf (a .plan))
 
-abbrev pub planRead : model.Reading → model.Plan
-planRead r = record { tasks = r .tasks; policy = r .policy; states = r .states; arcs = r .arcs }
+-- an outcome, with the plan that has been read
+abbrev pub answered : Outcome → Reading → List ℕ → PlanRead
+answered o r next =
+    record { outcome = o; plan = record { tasks = r .tasks; count = r .count; policy = r .policy; states = r .states; next = next } }
 
--- the parts of a plan have their sizes
+-- a fault, with the empty plan
+abbrev pub refusal : Fault → PlanRead
+refusal f = answered (Faulty f) nothingRead emptyTable
+
+-- the plan beside a fault is the empty one
+pub record FaultAlone (a : PlanRead) : Type 0 where
+  pub empty : (f : Fault) → a .outcome ≡ Faulty f → a ≡ refusal f
+
+-- the parts of a plan have their sizes, and no task stands past the count
 pub record Sized (p : Plan) : Type 0 where
   pub fits : p .count ≤ maxTasks
   pub room : length (p .tasks) ≡ maxTasks
+  pub spare : (k : ℕ) → p .count ≤ k → getD (p .tasks) k noTask ≡ noTask
   pub table : length (p .next) ≡ pairCount
 
--- the counts are within their limits
+-- the counts are within their limits, and no task stands past the count
 pub record Within (r : Reading) : Type 0 where
   pub fits : r .count ≤ maxTasks
   pub room : length (r .tasks) ≡ maxTasks
+  pub spare : (k : ℕ) → r .count ≤ k → getD (r .tasks) k noTask ≡ noTask
   pub states : r .states ≤ maxStates
-
--- a pair rises above the arcs exactly from the least one on
-pub record Least (arcs : List model.Arc) (least : ℕ) : Type 0 where
-  pub law : (s l : ℕ) → l < labelCount → model.rising arcs s l ≡ leb least (s * labelCount + l)
 
 -- the table has no arc from the least pair on, and one just below it
 pub record Holds (next : List ℕ) (least : ℕ) : Type 0 where

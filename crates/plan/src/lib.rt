@@ -2,11 +2,11 @@
 use node::Node;
 ghost use mathlib.Core.Path.{_≡_};
 ghost use Prim.Native.Nat.{_+_, _*_, _^_, _<_, _≤_};
-ghost use mathlib.Core.List.{List};
-ghost use lib.ListN.{getD, replicate};
-ghost use Rattle.model.specs.Plan.{Arc, nextIn, width, mayFollow, between, taskInRange, arcInRange, inRange, pairRises, firstFault, fault, readPlan};
+ghost use mathlib.Core.List.{[]};
+ghost use lib.ListN.{getD};
+ghost use Rattle.model.specs.Plan.{nextIn, width, mayFollow, between, taskInRange, arcInRange, inRange, firstFault, readPlan};
 ghost use Rattle.model.specs.Limits.{maxTasks, maxStates};
-ghost use Rattle.plan.specs.View.{faultNumber, checkNumber, answerOf, answerWith, planRead, readingOf, nothingReadWith, arcsIn, nextOf, labelCount, pairCount, Sized, Within, Least, Holds, Readable, ReadableArc, Reads, ReadsAside};
+ghost use Rattle.plan.specs.View.{faultNumber, checkNumber, answerOf, readingOf, nothingRead, emptyTable, arcsIn, nextOf, labelCount, fromLeast, faultFromLeast, answered, refusal, FaultAlone, Sized, Within, Holds, Readable, ReadableArc, Reads, ReadsAside};
 
 const MAX_TASKS: usize = Node::MAX_TASKS;
 
@@ -63,13 +63,13 @@ pub enum Outcome {
     Faulty(Fault),
 }
 
-// The plan is meant only where the outcome is sound.
+// The plan is the empty one where the outcome is a fault.
 pub struct PlanRead {
     pub outcome: Outcome,
     pub plan: Plan,
 }
 
-// What the commands read so far say. The first `count` tasks are given; 0 stands for a policy or a
+// What the commands read so far say. The first `count` tasks are given, the others are 0; 0 stands for a policy or a
 // number of states not given yet; the next arc's 16 S + L must be `least` or more.
 struct Reading {
     tasks: [Task; MAX_TASKS],
@@ -101,7 +101,7 @@ fn byte_at(s: &[u8], at: usize) -> u8
 // Whether a command may follow those read.
 fn may_follow(r: Reading, c: u8) -> bool
     requires { ⌜ Within r ⌝ }
-    ensures { λ b. ⌜ ((arcs : List Arc) → b ≡ mayFollow (readingOf r arcs) c) ⌝ }
+    ensures { λ b. ⌜ b ≡ mayFollow (readingOf r []) c ⌝ }
 {
     let policy = r.policy;
     let states = r.states;
@@ -145,7 +145,7 @@ fn labels(count: usize) -> usize
 // Whether an arc's states and label are in range.
 fn arc_in_range(r: Reading, s: u8, l: u8, t: u8) -> bool
     requires { ⌜ Within r ⌝ }
-    ensures { λ b. ⌜ ((arcs : List Arc) → b ≡ arcInRange (readingOf r arcs) s l t) ⌝ }
+    ensures { λ b. ⌜ b ≡ arcInRange (readingOf r []) s l t ⌝ }
 {
     let states = r.states;
     if states <= s {
@@ -170,7 +170,7 @@ fn up_to(n: u8, limit: u8) -> bool
 // Whether a command's operands are in range.
 fn in_range(r: Reading, c: u8, x: u8, y: u8, z: u8) -> bool
     requires { ⌜ Within r ⌝ }
-    ensures { λ b. ⌜ ((arcs : List Arc) → b ≡ inRange (readingOf r arcs) c x y z) ⌝ }
+    ensures { λ b. ⌜ b ≡ inRange (readingOf r []) c x y z ⌝ }
 {
     match c {
         1 => task_in_range(x, y, z),
@@ -202,7 +202,7 @@ pub fn next_state(next: &[u8; PAIRS], s: u8, l: u8) -> u8
 
 // Whether an arc's pair rises above those before it; no other command has one.
 fn pair_rises(r: Reading, c: u8, s: u8, l: u8) -> bool
-    ensures { λ b. ⌜ ((arcs : List Arc) → Least arcs (r .least) → (c ≡ 4 → l < labelCount) → b ≡ pairRises (readingOf r arcs) c s l) ⌝ }
+    ensures { λ b. ⌜ b ≡ fromLeast (r .least) c s l ⌝ }
 {
     if c == 4 { r.least <= pair(s, l) } else { true }
 }
@@ -242,7 +242,7 @@ fn first_fault(
 // The fault of a command with `left` bytes from it on.
 fn fault_of(r: Reading, left: usize, c: u8, x: u8, y: u8, z: u8) -> Outcome
     requires { ⌜ Within r ⌝ }
-    ensures { λ o. ⌜ ((arcs : List Arc) → Least arcs (r .least) → checkNumber o ≡ fault (readingOf r arcs) left c x y z) ⌝ }
+    ensures { λ o. ⌜ checkNumber o ≡ faultFromLeast r left c x y z ⌝ }
 {
     let ended = r.ended;
     let unknown = !up_to(c, 5);
@@ -315,7 +315,7 @@ fn with_next(r: Reading, next: &mut [u8; PAIRS], c: u8, x: u8, y: u8, z: u8) -> 
 
 // The reading before the first command.
 fn nothing_read() -> Reading
-    ensures { λ r. ⌜ Within r × (r .least ≡ 0) × ((arcs : List Arc) → readingOf r arcs ≡ nothingReadWith arcs) ⌝ }
+    ensures { λ r. ⌜ r ≡ nothingRead ⌝ }
 {
     let none = Task {
         work: 0,
@@ -332,11 +332,16 @@ fn nothing_read() -> Reading
     }
 }
 
-// The answer, with the plan that has been read.
+// A table without an arc.
+fn empty_table() -> [u8; PAIRS]
+    ensures { λ r. ⌜ r ≡ emptyTable ⌝ }
+{
+    [0; PAIRS]
+}
+
+// An outcome, with the plan that has been read.
 fn answer(outcome: Outcome, r: Reading, next: [u8; PAIRS]) -> PlanRead
-    requires { ⌜ Within r × Holds next (r .least) ⌝ }
-    ensures { λ a. ⌜ Sized (a .plan) ⌝ }
-    ensures { λ a. ⌜ answerOf a ≡ answerWith outcome (planRead (readingOf r (arcsIn next))) ⌝ }
+    ensures { λ a. ⌜ a ≡ answered outcome r next ⌝ }
 {
     let tasks = r.tasks;
     let plan = Plan {
@@ -349,17 +354,16 @@ fn answer(outcome: Outcome, r: Reading, next: [u8; PAIRS]) -> PlanRead
     PlanRead { outcome, plan }
 }
 
-// A table without an arc.
-fn empty_table() -> [u8; PAIRS]
-    ensures { λ r. ⌜ r ≡ replicate pairCount 0 ⌝ }
+// A fault, with the empty plan.
+fn refused(fault: Fault) -> PlanRead
+    ensures { λ a. ⌜ a ≡ refusal fault ⌝ }
 {
-    [0; PAIRS]
+    answer(Outcome::Faulty(fault), nothing_read(), empty_table())
 }
 
 // The plan that the bytes are, or their first fault.
 pub fn read(s: &[u8]) -> PlanRead
-    ensures { λ a. ⌜ Sized (a .plan) ⌝ }
-    ensures { λ a. ⌜ answerOf a ≡ readPlan (now (s .entry)) ⌝ }
+    ensures { λ a. ⌜ Sized (a .plan) × (answerOf a ≡ readPlan (now (s .entry))) × FaultAlone a ⌝ }
 {
     let mut next = empty_table();
     let mut r = nothing_read();
@@ -370,8 +374,8 @@ pub fn read(s: &[u8]) -> PlanRead
         let y = byte_at(s, at + 2);
         let z = byte_at(s, at + 3);
         let outcome = fault_of(r, s.len() - at, c, x, y, z);
-        if let Outcome::Faulty(_) = outcome {
-            return answer(outcome, r, next);
+        if let Outcome::Faulty(fault) = outcome {
+            return refused(fault);
         }
         r = with_next(r, &mut next, c, x, y, z);
         at += width_of(c);
@@ -379,5 +383,5 @@ pub fn read(s: &[u8]) -> PlanRead
     if r.ended {
         return answer(Outcome::Sound, r, next);
     }
-    answer(Outcome::Faulty(Fault::BytesEnd), r, next)
+    refused(Fault::BytesEnd)
 }

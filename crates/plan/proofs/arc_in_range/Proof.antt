@@ -10,21 +10,21 @@ use Rattle.plan.proofs.arc_in_range.Tie as tie
 
 returns : tie.Need-returns
 unfolding arcInRange
-returns c arcs = simp (le-ltb _ _ (c .if1 .taken))
+returns c = simp (le-ltb _ _ (c .if1 .taken))
 
 labels-requires : tie.Need-labels-requires
 labels-requires c κs = c .before .pre .fits
 
 returns-2 : tie.Need-returns-2
 unfolding arcInRange
-returns-2 c arcs =
+returns-2 c =
     let a = c .before .before .before .args in
     let h : 2 ^ (a .r .count) ≤ a .l = omega arith in
     simp (task-count _ (c .before .before .before .pre), lt-ltb _ _ (c .before .before .if1 .left), le-ltb _ _ h)
 
 returns-3 : tie.Need-returns-3
 unfolding arcInRange
-returns-3 c arcs =
+returns-3 c =
     let a = c .before .before .before .args in
     let h : a .l < 2 ^ (a .r .count) = omega arith in
     simp (task-count _ (c .before .before .before .pre), lt-ltb _ _ (c .before .before .if1 .left), lt-ltb _ _ h)

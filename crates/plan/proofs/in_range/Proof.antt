@@ -21,23 +21,23 @@ arc-in-range-requires c κs = search needs
 
 returns : tie.Need-returns
 unfolding inRange
-returns c arcs = c .task-in-range .ensures ∙ simp (c .before .match .keys1)
+returns c = c .task-in-range .ensures ∙ simp (c .before .match .keys1)
 
 returns-2 : tie.Need-returns-2
 unfolding inRange
-returns-2 c arcs = c .up-to .ensures ∙ simp (c .before .match .keys2)
+returns-2 c = c .up-to .ensures ∙ simp (c .before .match .keys2)
 
 returns-3 : tie.Need-returns-3
 unfolding inRange
-returns-3 c arcs = c .up-to2 .ensures ∙ simp (c .before .match .keys3)
+returns-3 c = c .up-to2 .ensures ∙ simp (c .before .match .keys3)
 
 returns-4 : tie.Need-returns-4
 unfolding inRange
-returns-4 c arcs = c .arc-in-range .ensures arcs ∙ simp (c .before .match .keys4)
+returns-4 c = c .arc-in-range .ensures ∙ simp (c .before .match .keys4)
 
 returns-5 : tie.Need-returns-5
 unfolding inRange
-returns-5 c arcs =
+returns-5 c =
     simp
     (ne-eqb _ _ (c .match .rest .0 .0 .0 .1), ne-eqb _ _ (c .match .rest .0 .0 .1), ne-eqb _ _ (c .match .rest .0 .1), ne-eqb _ _ (c .match .rest .1))
 

@@ -1,6 +1,5 @@
 -- `plan::pair_rises` meets its contract: an arc's pair is compared with the least that rises.
 -- Assumes nothing.
-use mathlib.Core.Path.{sym}
 use borrow.Author.Needs.{needs}
 use borrow.Author.Tests.{ne-eqb}
 use Rattle.plan.proofs.pair_rises.Statement.{statement}
@@ -10,11 +9,10 @@ pair-requires : tie.Need-pair-requires
 pair-requires c κs = search needs
 
 returns : tie.Need-returns
-returns c arcs least low =
-    simp (c .before .pair .ensures, c .before .before .if1 .taken) (sym (least .law _ _ (low (c .before .before .if1 .taken))))
+returns c = simp (c .before .pair .ensures, c .before .before .if1 .taken)
 
 returns-2 : tie.Need-returns-2
-returns-2 c arcs least low = simp (ne-eqb _ _ (c .if1 .left))
+returns-2 c = simp (ne-eqb _ _ (c .if1 .left))
 
 pub pair-rises-spec : {M : Type 1} → statement M
 pair-rises-spec = tie.close (tie.spec pair-requires returns returns-2)

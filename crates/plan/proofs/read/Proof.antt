@@ -10,8 +10,8 @@ use lib.ListN.{length, getD}
 use Rattle.model.specs.Plan.{fault}
 use Rattle.model.proofs.Plan.{width-pos}
 use Rattle.plan.specs.View.{checkNumber, readingOf, arcsIn}
-use Rattle.plan.proofs.View.{least-rises}
-use Rattle.plan.proofs.Turn.{Reached, faultHere, reached-start, reached-end, reached-next, readable, readable-arc, refused}
+use Rattle.plan.proofs.View.{fault-from-least}
+use Rattle.plan.proofs.Turn.{Reached, faultHere, reached-start, reached-next, readable, readable-arc, answers-found, answers-plan, answers-short}
 use Rattle.plan.proofs.read.Statement.{statement}
 use Rattle.plan.proofs.read.Tie as tie
 
@@ -29,8 +29,7 @@ nothing-read-requires c κs = search needs
 
 loop-holds : tie.Need-loop-holds Inv-loop μ-loop
 loop-holds c =
-    let e = c .nothing-read .ensures in
-    reached-start _ _ _ (c .before .empty-table .ensures) (e .0) (e .1) (e .2)
+    reached-start _ _ _ (c .before .empty-table .ensures) (c .nothing-read .ensures)
 
 shared-slice-read-c : tie.Need-shared-slice-read-c Inv-loop μ-loop
 shared-slice-read-c c = search needs
@@ -75,30 +74,31 @@ module _ (c : tie.After-fault-of Inv-loop μ-loop) where
   found : checkNumber (c .fault-of .result)
       ≡ faultHere (bytes (head c)) (head c .loop .next) (head c .loop .r) (head c .loop .at) (head c .loop .inv) more
   found =
-      c .fault-of .ensures (arcsIn (head c .loop .next)) (least-rises _ _ (head c .loop .inv .holds))
+      c .fault-of .ensures
+      ∙ fault-from-least _ _ _ _ _ _ _ (head c .loop .inv .within) (head c .loop .inv .holds)
       ∙ (λ i. fault (readingOf (head c .loop .r) (arcsIn (head c .loop .next))) (length (bytes (head c)) - head c .loop .at)
       (getD (bytes (head c)) (head c .loop .at) 0)
       (c .before .before .before .byte-at .ensures i) (c .before .before .byte-at2 .ensures i) (c .before .byte-at3 .ensures i))
 
-enum-told : tie.Need-enum-told Inv-loop μ-loop
-enum-told c = search needs
+enum-known-outcome : tie.Need-enum-known-outcome Inv-loop μ-loop
+enum-known-outcome c = search needs
 
-answer-requires : tie.Need-answer-requires Inv-loop μ-loop
-answer-requires c κs = let i = head (c .before .before) .loop .inv in (i .within, i .holds)
+refused-requires : tie.Need-refused-requires Inv-loop μ-loop
+refused-requires c κs = search needs
 
 returns : tie.Need-returns Inv-loop μ-loop
 returns c =
-    let f = c .before .before .before in
-    (c .answer .ensures .0, c .answer .ensures .1 ∙ refused _ _ _ _ (head f .loop .inv) (more f) _ _ _ (c .before .enum-told .given .1) (found f))
+    let f = c .before .before .before .before in
+    answers-found _ _ _ _ (head f .loop .inv) (more f) _ _ _ (c .refused .ensures) (c .before .before .outcome .given .1) (found f)
 
-enum-told-2 : tie.Need-enum-told-2 Inv-loop μ-loop
-enum-told-2 c = search needs
+enum-told : tie.Need-enum-told Inv-loop μ-loop
+enum-told c = search needs
 
 -- no fault was found
-passed : (c : tie.After-enum-told2 Inv-loop μ-loop) →
+passed : (c : tie.After-enum-told Inv-loop μ-loop) →
     0 ≡ faultHere (bytes (head (c .before .before))) (head (c .before .before) .loop .next) (head (c .before .before) .loop .r)
     (head (c .before .before) .loop .at) (head (c .before .before) .loop .inv) (more (c .before .before))
-passed c = sym (ap checkNumber (c .enum-told2 .given .1)) ∙ found (c .before .before)
+passed c = sym (ap checkNumber (c .enum-told .given .1)) ∙ found (c .before .before)
 
 with-next-requires : tie.Need-with-next-requires Inv-loop μ-loop
 with-next-requires c κs =
@@ -129,21 +129,21 @@ loop-less c = omega (arith, reached c .inside, c .width-of .ensures, width-pos (
 loop-again : tie.Need-loop-again Inv-loop μ-loop
 loop-again c = reached c
 
-answer-requires-2 : tie.Need-answer-requires-2 Inv-loop μ-loop
-answer-requires-2 c κs = let i = c .before .before .loop .inv in (i .within, i .holds)
+answer-requires : tie.Need-answer-requires Inv-loop μ-loop
+answer-requires c κs = search needs
 
 returns-2 : tie.Need-returns-2 Inv-loop μ-loop
 returns-2 c =
     let l = c .before .before in
-    (c .answer2 .ensures .0, c .answer2 .ensures .1 ∙ sym (reached-end _ _ _ _ (l .before .loop .inv) (l .loop-test .left) ∙ simp (c .before .if1 .taken)))
+    answers-plan _ _ _ _ (l .before .loop .inv) (l .loop-test .left) _ (c .answer .ensures) (c .before .if1 .taken)
 
-answer-requires-3 : tie.Need-answer-requires-3 Inv-loop μ-loop
-answer-requires-3 c κs = let i = c .before .before .loop .inv in (i .within, i .holds)
+refused-requires-2 : tie.Need-refused-requires-2 Inv-loop μ-loop
+refused-requires-2 c κs = search needs
 
 returns-3 : tie.Need-returns-3 Inv-loop μ-loop
 returns-3 c =
     let l = c .before .before in
-    (c .answer3 .ensures .0, c .answer3 .ensures .1 ∙ sym (reached-end _ _ _ _ (l .before .loop .inv) (l .loop-test .left) ∙ simp (c .before .if1 .left)))
+    answers-short _ _ _ _ (l .before .loop .inv) (l .loop-test .left) _ (c .refused2 .ensures) (c .before .if1 .left)
 
 pub read-spec : {M : Type 1} → statement M
 read-spec =
@@ -163,16 +163,16 @@ read-spec =
     byte-at-requires-3
     sub-fault-of
     fault-of-requires
-    enum-told
-    answer-requires
+    enum-known-outcome
+    refused-requires
     returns
-    enum-told-2
+    enum-told
     with-next-requires
     width-of-requires
     add-at
     loop-less
     loop-again
-    answer-requires-2
+    answer-requires
     returns-2
-    answer-requires-3
+    refused-requires-2
     returns-3)

@@ -37,7 +37,7 @@ arc-read r next s l t h =
     ∙ arcs-add next (r .least) k t (h .holds) (h .rises) fits
     ∙ ap (λ (a : Arc). arcsIn next ++ (a ∷ [])) (arc-of-pair s l t (h .label)) in
     record {
-      within = record { fits = h .within .fits; room = h .within .room; states = h .within .states };
+      within = record { fits = h .within .fits; room = h .within .room; spare = h .within .spare; states = h .within .states };
       holds = rw (add-one t, add-one k) (holds-add next (r .least) k t (h .holds) (h .rises) fits);
       reading = λ i. record { tasks = tasksOf (r .tasks) (r .count); policy = r .policy; states = r .states; arcs = arcs i; ended = h .going i };
     }

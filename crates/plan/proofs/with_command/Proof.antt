@@ -20,7 +20,7 @@ module _ (r : Reading) (x y z : ℕ) (within : Within r) where
       ReadsAside r (record { tasks = r .tasks; count = r .count; policy = x; states = r .states; least = r .least; ended = r .ended }) 2 x y z
   unfolding after
   policy-read e = record {
-    within = record { fits = within .fits; room = within .room; states = within .states };
+    within = record { fits = within .fits; room = within .room; spare = within .spare; states = within .states };
     least = refl;
     reading = λ arcs i. record { tasks = tasksOf (r .tasks) (r .count); policy = x; states = r .states; arcs = arcs; ended = e i };
   }
@@ -29,7 +29,7 @@ module _ (r : Reading) (x y z : ℕ) (within : Within r) where
       ReadsAside r (record { tasks = r .tasks; count = r .count; policy = r .policy; states = x; least = r .least; ended = r .ended }) 3 x y z
   unfolding after
   states-read e m = record {
-    within = record { fits = within .fits; room = within .room; states = m };
+    within = record { fits = within .fits; room = within .room; spare = within .spare; states = m };
     least = refl;
     reading = λ arcs i. record { tasks = tasksOf (r .tasks) (r .count); policy = r .policy; states = x; arcs = arcs; ended = e i };
   }
@@ -37,7 +37,7 @@ module _ (r : Reading) (x y z : ℕ) (within : Within r) where
   end-read : ReadsAside r (record { tasks = r .tasks; count = r .count; policy = r .policy; states = r .states; least = r .least; ended = true }) 5 x y z
   unfolding after
   end-read = record {
-    within = record { fits = within .fits; room = within .room; states = within .states };
+    within = record { fits = within .fits; room = within .room; spare = within .spare; states = within .states };
     least = refl;
     reading = λ arcs. refl;
   }

@@ -7,10 +7,10 @@ use Prim.Native.Nat.{ℕ, _+_, _<_}
 use native.Mathlib.Numerals.{add-one}
 use native.Mathlib.Omega.{arith}
 use lib.ListN.{length, set, take, length-set}
-use lib.Seq.{take-suc-set}
+use lib.Seq.{take-suc-set, getD-set-other}
 use Rattle.model.specs.Plan.{after}
 use Rattle.plan.specs.declared.Task.{Task}
-use Rattle.plan.specs.View.{taskView, tasksOf}
+use Rattle.plan.specs.View.{noTask, taskView, tasksOf}
 use Rattle.plan.proofs.with_task.Statement.{statement}
 use Rattle.plan.proofs.with_task.Tie as tie
 
@@ -34,7 +34,12 @@ add-n c = search needs
 returns : tie.Need-returns
 unfolding after
 returns c = record {
-  within = record { fits = omega (arith, c .pre .room refl); room = length-set (c .args .r .tasks) (c .args .r .count) _ ∙ c .pre .within .room; states = c .pre .within .states };
+  within = record {
+    fits = omega (arith, c .pre .room refl);
+    room = length-set (c .args .r .tasks) (c .args .r .count) _ ∙ c .pre .within .room;
+    spare = λ k h. getD-set-other (c .args .r .tasks) (c .args .r .count) k _ noTask (omega arith) ∙ c .pre .within .spare k (omega arith);
+    states = c .pre .within .states;
+  };
   least = refl;
   reading = λ arcs i. record {
     tasks = task-added (c .args .r .tasks) (c .args .r .count) (record { work = c .args .c; window = c .args .d; value = c .args .v }) (room c) i;
