@@ -18,7 +18,7 @@ use Rattle.plan.specs.declared.Outcome.{Outcome}
 use Rattle.plan.specs.declared.Outcome.the-variants.{Sound, Faulty}
 use Rattle.plan.specs.declared.PlanRead.{PlanRead}
 use Rattle.plan.specs.declared.Task.{Task}
-use Rattle.plan.specs.View.{faultNumber, checkNumber, noTask, readingOf, nothingRead, emptyTable, answerOf, answered, refusal, FaultAlone, Sized, arcsIn, arcsBelow, arcAt, pairCount, Within, Holds, Readable, ReadableArc, Reads}
+use Rattle.plan.specs.View.{faultNumber, checkNumber, emptyTask, readingOf, nothingRead, emptyTable, answerOf, answered, refusal, FaultAlone, Sized, arcsIn, arcsBelow, arcAt, pairCount, Within, Holds, Readable, ReadableArc, Reads}
 use Rattle.plan.proofs.View.{task-count, label-low, least-rises}
 
 -- the bytes before a place have been read
@@ -54,8 +54,8 @@ empty-holds = record {
 nothing-within : Within nothingRead
 nothing-within = record {
   fits = omega arith;
-  room = length-replicate {A = Task} maxTasks noTask;
-  spare = λ k h. getD-default maxTasks k noTask;
+  room = length-replicate {A = Task} maxTasks emptyTask;
+  spare = λ k h. getD-default maxTasks k emptyTask;
   states = omega arith;
 }
 

@@ -31,8 +31,8 @@ checkNumber Sound = 0
 checkNumber (Faulty f) = faultNumber f
 
 -- what stands past the tasks given
-abbrev pub noTask : Task
-noTask = record { work = 0; window = 0; value = 0 }
+abbrev pub emptyTask : Task
+emptyTask = record { work = 0; window = 0; value = 0 }
 
 abbrev pub taskView : Task → model.Task
 taskView t = record { work = t .work; window = t .window; value = t .value }
@@ -78,7 +78,7 @@ readingOf r arcs = record { tasks = tasksOf (r .tasks) (r .count); policy = r .p
 
 -- before the first command
 abbrev pub nothingRead : Reading
-nothingRead = record { tasks = replicate maxTasks noTask; count = 0; policy = 0; states = 0; least = 0; ended = false }
+nothingRead = record { tasks = replicate maxTasks emptyTask; count = 0; policy = 0; states = 0; least = 0; ended = false }
 
 -- a table without an arc
 abbrev pub emptyTable : List ℕ
@@ -120,14 +120,14 @@ pub record FaultAlone (a : PlanRead) : Type 0 where
 pub record Sized (p : Plan) : Type 0 where
   pub fits : p .count ≤ maxTasks
   pub room : length (p .tasks) ≡ maxTasks
-  pub spare : (k : ℕ) → p .count ≤ k → getD (p .tasks) k noTask ≡ noTask
+  pub spare : (k : ℕ) → p .count ≤ k → getD (p .tasks) k emptyTask ≡ emptyTask
   pub table : length (p .next) ≡ pairCount
 
 -- the counts are within their limits, and no task stands past the count
 pub record Within (r : Reading) : Type 0 where
   pub fits : r .count ≤ maxTasks
   pub room : length (r .tasks) ≡ maxTasks
-  pub spare : (k : ℕ) → r .count ≤ k → getD (r .tasks) k noTask ≡ noTask
+  pub spare : (k : ℕ) → r .count ≤ k → getD (r .tasks) k emptyTask ≡ emptyTask
   pub states : r .states ≤ maxStates
 
 -- the table has no arc from the least pair on, and one just below it

@@ -17,7 +17,7 @@ use Rattle.model.specs.Plan.{Task}
 use Rattle.model.specs.Slot.{Job, noTask, newJobs}
 use Rattle.model.proofs.Lists.{flatMap-append, getD-table, mem-of-upFrom, upFrom-append}
 use Rattle.words.proofs.Memory.{getD-skip}
-use Rattle.policy.specs.View.{Tasks, cellCount, slotCells, taskIn, taskAt, leftIn, jobsIn, jobsOf, newWork, joined, TasksInRange, Cells, Leaves}
+use Rattle.policy.specs.View.{Tasks, cellCount, slotCells, taskIn, taskAt, leftIn, jobsIn, jobsOf, newWork, joinedCells, TasksInRange, Cells, Leaves}
 use Rattle.policy.proofs.Lists.{flatMap-same, flatMap-none, flatMap-shift, length-table}
 use Rattle.policy.proofs.Cells.{FitCell, leaves-same, jobs-sized, cells-sized, work-within}
 
@@ -64,32 +64,32 @@ new-jobs (t ∷ ts) l i (suc m) h w =
 
 module _ (ts : Tasks) (cells : List ℕ) (l : ℕ) (r : TasksInRange ts) (h : Cells ts cellCount cells) where
   -- the cells of the jobs that were there, and of the new ones
-  old-cell : (k : ℕ) → k < cellCount → getD (joined ts cells l) k 0 ≡ getD cells k 0
-  unfolding joined
+  old-cell : (k : ℕ) → k < cellCount → getD (joinedCells ts cells l) k 0 ≡ getD cells k 0
+  unfolding joinedCells
   old-cell k lt = List·getD-append cells (map (newWork ts l) (upFrom 0 maxTasks)) 0 k (omega (arith, h .size))
 
-  new-cell : (j : ℕ) → j < maxTasks → getD (joined ts cells l) (j + cellCount) 0 ≡ newWork ts l j
-  unfolding joined
+  new-cell : (j : ℕ) → j < maxTasks → getD (joinedCells ts cells l) (j + cellCount) 0 ≡ newWork ts l j
+  unfolding joinedCells
   new-cell j lt =
-      ap (λ k. getD (joined ts cells l) k 0) (add-comm j cellCount)
+      ap (λ k. getD (joinedCells ts cells l) k 0) (add-comm j cellCount)
       ∙ getD-skip cells (map (newWork ts l) (upFrom 0 maxTasks)) cellCount j (h .size)
       ∙ getD-table (newWork ts l) maxTasks j 0 lt
 
-  joined-size : length (joined ts cells l) ≡ slotCells
-  unfolding joined
+  joined-size : length (joinedCells ts cells l) ≡ slotCells
+  unfolding joinedCells
   joined-size = omega (arith, length-append cells (map (newWork ts l) (upFrom 0 maxTasks)), h .size, length-table (newWork ts l) maxTasks)
 
-  last-row : (j : ℕ) → j < maxTasks → jobsIn ts (j + cellCount) (getD (joined ts cells l) (j + cellCount) 0) ≡ newIn ts l 1 j
+  last-row : (j : ℕ) → j < maxTasks → jobsIn ts (j + cellCount) (getD (joinedCells ts cells l) (j + cellCount) 0) ≡ newIn ts l 1 j
   last-row j lt =
-      let work : getD (joined ts cells l) (j + cellCount) 0 ≡ newWork ts l j = new-cell j lt in
+      let work : getD (joinedCells ts cells l) (j + cellCount) 0 ≡ newWork ts l j = new-cell j lt in
       let number : taskIn (j + cellCount) ≡ 1 + j = omega arith in
       let place : (j + cellCount) % maxTasks ≡ j = omega arith in
       let left : leftIn ts (j + cellCount) ≡ getD ts j noTask .window = omega (arith, ap (λ n. getD ts n noTask .window) place) in
       λ k. consIf (ltb 0 (work k)) (record { task = number k; work = work k; left = left k }) []
 
-  join-jobs : jobsOf ts (joined ts cells l) ≡ jobsOf ts cells ++ newJobs ts l 1
+  join-jobs : jobsOf ts (joinedCells ts cells l) ≡ jobsOf ts cells ++ newJobs ts l 1
   join-jobs =
-      jobs-sized ts slotCells (joined ts cells l) joined-size
+      jobs-sized ts slotCells (joinedCells ts cells l) joined-size
       ∙ ap (flatMap in-cell) (upFrom-append 0 cellCount maxTasks)
       ∙ flatMap-append in-cell (upFrom 0 cellCount) (upFrom cellCount maxTasks)
       ∙ ap₂ (λ a b. a ++ b)
@@ -101,10 +101,10 @@ module _ (ts : Tasks) (cells : List ℕ) (l : ℕ) (r : TasksInRange ts) (h : Ce
       ∙ sym (new-jobs ts l 1 maxTasks (r .count) (λ j lt. r .each j lt .work)))
     where
       in-cell : ℕ → List Job
-      in-cell k = jobsIn ts k (getD (joined ts cells l) k 0)
+      in-cell k = jobsIn ts k (getD (joinedCells ts cells l) k 0)
 
-  join-cells : Cells ts slotCells (joined ts cells l)
-  join-cells = cells-sized ts slotCells (joined ts cells l) joined-size (λ k lt. go k lt (ltb k cellCount) refl)
+  join-cells : Cells ts slotCells (joinedCells ts cells l)
+  join-cells = cells-sized ts slotCells (joinedCells ts cells l) joined-size (λ k lt. go k lt (ltb k cellCount) refl)
     where
       new : (j : ℕ) → j < maxTasks → (b : Bool) → FitCell ts (j + cellCount) (cond b (getD ts j noTask .work) 0)
       new j lt true =
@@ -113,13 +113,13 @@ module _ (ts : Tasks) (cells : List ℕ) (l : ℕ) (r : TasksInRange ts) (h : Ce
           (omega arith, λ p. omega (arith, work-within ts r ((j + cellCount) % maxTasks)))
       new j lt false = (omega arith, λ p. absurd (omega arith))
 
-      go : (k : ℕ) → k < slotCells → (b : Bool) → ltb k cellCount ≡ b → FitCell ts k (getD (joined ts cells l) k 0)
+      go : (k : ℕ) → k < slotCells → (b : Bool) → ltb k cellCount ≡ b → FitCell ts k (getD (joinedCells ts cells l) k 0)
       go k lt true e = subst (FitCell ts k) (sym (old-cell k (ltb-true k cellCount e))) (h .work k, h .left k)
       go k lt false e =
           let low : k - cellCount < maxTasks = omega arith in
           let place : k - cellCount + cellCount ≡ k = omega (arith, ltb-false k cellCount e) in
-          subst (λ n. FitCell ts n (getD (joined ts cells l) n 0)) place
+          subst (λ n. FitCell ts n (getD (joinedCells ts cells l) n 0)) place
           (subst (FitCell ts (k - cellCount + cellCount)) (sym (new-cell (k - cellCount) low)) (new (k - cellCount) low (bit l (k - cellCount))))
 
-  pub joined-leaves : {after : List ℕ} → after ≡ joined ts cells l → Leaves ts (jobsOf ts cells ++ newJobs ts l 1) slotCells after
+  pub joined-leaves : {after : List ℕ} → after ≡ joinedCells ts cells l → Leaves ts (jobsOf ts cells ++ newJobs ts l 1) slotCells after
   joined-leaves is = leaves-same is join-jobs join-cells

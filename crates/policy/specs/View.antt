@@ -80,8 +80,8 @@ abbrev pub newWork : Tasks → ℕ → ℕ → ℕ
 newWork ts l i = cond (bit l i) (getD ts i noTask .work) 0
 
 -- 1. "The new jobs join with C slots of work remaining": the cells, and then one for each task.
-unfoldable pub joined : Tasks → List ℕ → ℕ → List ℕ
-joined ts cells l = cells ++ map (newWork ts l) (upFrom 0 maxTasks)
+unfoldable pub joinedCells : Tasks → List ℕ → ℕ → List ℕ
+joinedCells ts cells l = cells ++ map (newWork ts l) (upFrom 0 maxTasks)
 
 -- 2. "Each job with more work remaining than slots left is dropped."
 abbrev pub hopefulIn : List ℕ → List ℕ → ℕ → ℕ

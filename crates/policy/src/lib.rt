@@ -12,7 +12,7 @@ ghost use lib.ListN.{getD, replicate};
 ghost use Rattle.model.specs.Limits.{maxTasks};
 ghost use Rattle.model.specs.Plan.{IsSound};
 ghost use Rattle.plan.specs.View.{taskView, tasksOf, planOf, Sized};
-ghost use Rattle.policy.specs.View.{Tasks, cellCount, slotCells, taskAt, leftIn, leftTable, Cells, Leaves, newWork, joined, hopeful, keyNumber, keyIn, codeIn, firstCell, workedIn, aged, tasksIn, Ruled, RulesOf, Slotted};
+ghost use Rattle.policy.specs.View.{Tasks, cellCount, slotCells, taskAt, leftIn, leftTable, Cells, Leaves, newWork, joinedCells, hopeful, keyNumber, keyIn, codeIn, firstCell, workedIn, aged, tasksIn, Ruled, RulesOf, Slotted};
 
 const MAX_TASKS: usize = Node::MAX_TASKS;
 
@@ -143,7 +143,7 @@ fn widen(cells: [u8; CELLS]) -> [u8; SLOT_CELLS]
 
 // 1. The label's new jobs join.
 fn join(tasks: [Task; MAX_TASKS], count: usize, cells: [u8; CELLS], label: u8) -> [u8; SLOT_CELLS]
-    ensures { λ r. ⌜ r ≡ joined (tasksOf tasks count) cells label ⌝ }
+    ensures { λ r. ⌜ r ≡ joinedCells (tasksOf tasks count) cells label ⌝ }
 {
     let mut joined = widen(cells);
     let mut i = 0;

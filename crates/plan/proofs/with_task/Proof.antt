@@ -10,7 +10,7 @@ use lib.ListN.{length, set, take, length-set}
 use lib.Seq.{take-suc-set, getD-set-other}
 use Rattle.model.specs.Plan.{after}
 use Rattle.plan.specs.declared.Task.{Task}
-use Rattle.plan.specs.View.{noTask, taskView, tasksOf}
+use Rattle.plan.specs.View.{emptyTask, taskView, tasksOf}
 use Rattle.plan.proofs.with_task.Statement.{statement}
 use Rattle.plan.proofs.with_task.Tie as tie
 
@@ -37,7 +37,7 @@ returns c = record {
   within = record {
     fits = omega (arith, c .pre .room refl);
     room = length-set (c .args .r .tasks) (c .args .r .count) _ ∙ c .pre .within .room;
-    spare = λ k h. getD-set-other (c .args .r .tasks) (c .args .r .count) k _ noTask (omega arith) ∙ c .pre .within .spare k (omega arith);
+    spare = λ k h. getD-set-other (c .args .r .tasks) (c .args .r .count) k _ emptyTask (omega arith) ∙ c .pre .within .spare k (omega arith);
     states = c .pre .within .states;
   };
   least = refl;

@@ -9,7 +9,7 @@ use Rattle.model.specs.Limits.{maxTasks}
 use Rattle.model.specs.Lists.{upFrom}
 use Rattle.words.proofs.Memory.{overwrite-none}
 use Rattle.plan.specs.View.{tasksOf}
-use Rattle.policy.specs.View.{cellCount, slotCells, newWork, joined as joinedCells}
+use Rattle.policy.specs.View.{cellCount, slotCells, newWork, joinedCells as joinedCells}
 use Rattle.policy.proofs.Lists.{written-more, write-end, length-table}
 use borrow.Author.Needs.{needs}
 use native.Mathlib.Omega.{arith}
@@ -17,10 +17,10 @@ use Rattle.policy.proofs.join.Statement.{statement}
 use Rattle.policy.proofs.join.Tie as tie
 
 abbrev Inv-loop : tie.InvT-loop
-Inv-loop tasks count label joined₀ i₀ joined i = (i ≤ maxTasks) × (joined ≡ overwrite joined₀ cellCount (map (newWork (tasksOf tasks count) label) (upFrom 0 i)))
+Inv-loop tasks count label joined₀ i₀ joinedCells i = (i ≤ maxTasks) × (joinedCells ≡ overwrite joined₀ cellCount (map (newWork (tasksOf tasks count) label) (upFrom 0 i)))
 
 abbrev μ-loop : tie.MeasureT-loop
-μ-loop tasks count label joined₀ i₀ joined i = maxTasks - i
+μ-loop tasks count label joined₀ i₀ joinedCells i = maxTasks - i
 
 widen-requires : tie.Need-widen-requires Inv-loop μ-loop
 widen-requires c κs = search needs
