@@ -98,22 +98,28 @@ fn add_outcomes(
     known
 }
 
+// A node, and the label of the edges that leave it.
+struct Source {
+    node: Node,
+    label: u8,
+}
+
 // The nodes that a label leads to from a node, in this state, join those in the store. The number of nodes then.
 fn explore_label(
     rules: Rules,
-    node: Node,
-    label: u8,
+    source: Source,
     state: u8,
     notes: &mut [u8],
     m: &mut [u8],
     n: usize,
 ) -> usize
-    requires { ⌜ Ruled rules × Cells (tasksIn rules) cellCount (node .cells) ⌝ }
+    requires { ⌜ Ruled rules × Cells (tasksIn rules) cellCount (source .node .cells) ⌝ }
     requires { ⌜ Holding (tasksIn rules) (now m) n × (noteRoom ≤ length (now notes)) ⌝ }
-    ensures { λ r. ⌜ Explored rules (λ P. edgesTo P (nodeOf (tasksIn rules) node) label (some state)) (now (m .entry)) n (now (m .exit)) r ⌝ }
+    ensures { λ r. ⌜ Explored rules (λ P. edgesTo P (nodeOf (tasksIn rules) (source .node)) (source .label) (some state)) (now (m .entry)) n (now (m .exit)) r ⌝ }
     ensures { λ _. ⌜ NotesFree (now (notes .entry)) (now (notes .exit)) ⌝ }
 {
-    let noted = graph::reach(rules, node, label, notes);
+    let node = source.node;
+    let noted = graph::reach(rules, node, source.label, notes);
     let count = noted.count;
     let done = noted.done;
     let cells = done.cells;
@@ -124,22 +130,22 @@ fn explore_label(
 fn follow_label(
     next: &[u8; plan::PAIRS],
     rules: Rules,
-    node: Node,
-    label: u8,
+    source: Source,
     notes: &mut [u8],
     m: &mut [u8],
     n: usize,
 ) -> usize
-    requires { ⌜ Ruled rules × Cells (tasksIn rules) cellCount (node .cells) × (node .state < maxStates) ⌝ }
+    requires { ⌜ Ruled rules × Cells (tasksIn rules) cellCount (source .node .cells) × (source .node .state < maxStates) ⌝ }
     requires { ⌜ Holding (tasksIn rules) (now m) n × (noteRoom ≤ length (now notes)) ⌝ }
-    ensures { λ r. ⌜ Explored rules (edgesBy (now (next .entry)) (nodeOf (tasksIn rules) node) label) (now (m .entry)) n (now (m .exit)) r ⌝ }
+    ensures { λ r. ⌜ Explored rules (edgesBy (now (next .entry)) (nodeOf (tasksIn rules) (source .node)) (source .label)) (now (m .entry)) n (now (m .exit)) r ⌝ }
     ensures { λ _. ⌜ NotesFree (now (notes .entry)) (now (notes .exit)) ⌝ }
 {
-    let to = plan::next_state(next, node.state, label);
+    let node = source.node;
+    let to = plan::next_state(next, node.state, source.label);
     if to == 0 {
         return n;
     }
-    explore_label(rules, node, label, to - 1, notes, m, n)
+    explore_label(rules, source, to - 1, notes, m, n)
 }
 
 // The nodes that edges lead to from a node, labels upward, join those in the store. The number of nodes then.
@@ -160,7 +166,8 @@ fn explore_node(
     let mut known = n;
     let mut label = 0;
     while label < labels {
-        known = follow_label(next, rules, node, label, notes, m, known);
+        let source = Source { node, label };
+        known = follow_label(next, rules, source, notes, m, known);
         if store::MAX_ROWS < known {
             return known;
         }

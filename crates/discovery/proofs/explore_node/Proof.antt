@@ -54,12 +54,12 @@ follow-label-requires c κs =
 same-length : tie.Need-same-length Inv-loop μ-loop
 same-length c =
     let call = c .before .before .before .before .before in
-    call .follow-label .kept .1 .1 .1 .1 .0 ∙ call .before .before .before .before .loop .inv .2
+    call .follow-label .kept .1 .1 .1 .0 ∙ call .before .before .before .before .loop .inv .2
 
 same-length-2 : tie.Need-same-length-2 Inv-loop μ-loop
 same-length-2 c =
     let call = c .before .before .before .before .before in
-    call .follow-label .kept .1 .1 .1 .1 .1 .0 ∙ call .before .before .before .before .loop .inv .3
+    call .follow-label .kept .1 .1 .1 .1 .0 ∙ call .before .before .before .before .loop .inv .3
 
 returns : tie.Need-returns Inv-loop μ-loop
 returns c =
@@ -68,7 +68,7 @@ returns c =
     let start = call .before .before .before .before .before .before .before .before in
     let a = start .args in
     let u = nodeOf (tasksIn (a .rules)) (a .node) in
-    let after = call .follow-label .last .1 .1 .1 .1 .1 .0 in
+    let after = call .follow-label .last .1 .1 .1 .1 .0 in
     let all = labels-shifted (a .rules .count) (omega (arith, start .pre .0 .0 .size, start .pre .0 .0 .tasks .count)) in (
       label-many (a .rules) (a .next .now) u (a .m .now) (a .n) (l .label + 1) (2 ^ a .rules .count) after (call .follow-label .result)
           (omega (arith, all)) (c .if1 .taken)
@@ -89,11 +89,11 @@ loop-again c =
     let start = call .before .before .before .before .before .before .before .before in
     let a = start .args in
     let u = nodeOf (tasksIn (a .rules)) (a .node) in
-    let after = call .follow-label .last .1 .1 .1 .1 .1 .0 in (
+    let after = call .follow-label .last .1 .1 .1 .1 .0 in (
       omega arith,
       c .if1 .left,
-      call .follow-label .kept .1 .1 .1 .1 .0 ∙ l .inv .2,
-      call .follow-label .kept .1 .1 .1 .1 .1 .0 ∙ l .inv .3,
+      call .follow-label .kept .1 .1 .1 .0 ∙ l .inv .2,
+      call .follow-label .kept .1 .1 .1 .1 .0 ∙ l .inv .3,
       label-more (a .rules) (a .next .now) u (a .m .now) (a .n) (l .label) (l .m) (l .known) (l .inv .1) (l .inv .4) after (call .follow-label .result) (call .follow-label .ensures .0),
       only-trans (l .inv .5) (call .follow-label .ensures .1),
     )
