@@ -34,20 +34,27 @@ pub enum Answer {
 // The least work memory.
 pub const WORK_ROOM: usize = Node::WORK_ROOM;
 
+// A plan's rules, and the number of its nodes.
+struct Graph {
+    rules: Rules,
+    n: usize,
+}
+
 // The fraction, the count, the potentials and the cycle, each tried over the whole certificate before the next.
 fn verdict(
     next: &[u8; plan::PAIRS],
-    rules: Rules,
-    n: usize,
+    graph: Graph,
     s: &[u8],
     parts: Parts,
     notes: &mut [u8],
     m: &[u8],
 ) -> Answer
-    requires { ⌜ Ruled rules × Held rules (now next) (now m) n × IsRead (now s) parts × (noteRoom ≤ length (now notes)) ⌝ }
-    ensures { λ r. ⌜ ((P : model.Plan) → Planned P rules (now (next .entry)) → Holds P (tasksIn rules) (now (m .entry)) n → answerOf r ≡ model-check.verdict P (certificateOf (now (s .entry)) parts)) ⌝ }
+    requires { ⌜ Ruled (graph .rules) × Held (graph .rules) (now next) (now m) (graph .n) × IsRead (now s) parts × (noteRoom ≤ length (now notes)) ⌝ }
+    ensures { λ r. ⌜ ((P : model.Plan) → Planned P (graph .rules) (now (next .entry)) → Holds P (tasksIn (graph .rules)) (now (m .entry)) (graph .n) → answerOf r ≡ model-check.verdict P (certificateOf (now (s .entry)) parts)) ⌝ }
     ensures { λ _. ⌜ NotesFree (now (notes .entry)) (now (notes .exit)) ⌝ }
 {
+    let rules = graph.rules;
+    let n = graph.n;
     if !fraction::fraction_ok(parts.p, parts.q) {
         return Answer::Refused(Refusal::BadFraction);
     }
@@ -92,7 +99,7 @@ fn check_certificate(
 {
     match certificate::read(s) {
         Form::Fault => Answer::Refused(Refusal::BadForm),
-        Form::Read(parts) => verdict(next, rules, n, s, parts, notes, m),
+        Form::Read(parts) => verdict(next, Graph { rules, n }, s, parts, notes, m),
     }
 }
 

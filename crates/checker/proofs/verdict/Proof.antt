@@ -47,20 +47,20 @@ fraction-ok-requires c κs = search needs
 
 returns : tie.Need-returns
 returns c =
-    let a = c .before .before .before .before .before .args in (
+    let a = c .before .before .before .before .before .before .args in (
       λ P p h. bad-fraction P (certificateOf (a .s .now) (a .parts)) (sym (c .before .fraction-ok .ensures) ∙ not-true _ (c .if1 .taken)),
       only-refl,
     )
 
 returns-2 : tie.Need-returns-2
 returns-2 c =
-    let start = c .before .before .before .before .before .before .before in
+    let start = c .before .before .before .before .before .before .before .before in
     let a = start .args in
     let bs = a .s .now in
     let z = certificateOf bs (a .parts) in
     let fraction = sym (c .before .before .before .fraction-ok .ensures) ∙ not-false _ (c .before .before .if1 .left) in
     let size = items-length (potentialIn bs) headSize potentialSize (a .parts .count) in (
-      λ P p h. bad-count P z fraction (λ e. c .if2 .taken (sym size ∙ e ∙ held-count (tasksIn (a .rules)) (a .m .now) (a .n) (nodes P) (h .nodes))),
+      λ P p h. bad-count P z fraction (λ e. c .if2 .taken (sym size ∙ e ∙ held-count (tasksIn (a .graph .rules)) (a .m .now) (a .graph .n) (nodes P) (h .nodes))),
       only-refl,
     )
 
@@ -69,31 +69,31 @@ within-limits-requires c κs = search needs
 
 returns-3 : tie.Need-returns-3
 returns-3 c =
-    let start = c .before .before .before .before .before .before .before .before .before in
+    let start = c .before .before .before .before .before .before .before .before .before .before in
     let a = start .args in
     let bs = a .s .now in
     let z = certificateOf bs (a .parts) in
     let fraction = sym (c .before .before .before .before .before .fraction-ok .ensures) ∙ not-false _ (c .before .before .before .before .if1 .left) in
     let size = items-length (potentialIn bs) headSize potentialSize (a .parts .count) in
-    let count : a .parts .count ≡ a .n = c .before .before .if2 .left in (
-      λ P p h. bad-limit P z fraction (size ∙ count ∙ sym (held-count (tasksIn (a .rules)) (a .m .now) (a .n) (nodes P) (h .nodes)))
+    let count : a .parts .count ≡ a .graph .n = c .before .before .if2 .left in (
+      λ P p h. bad-limit P z fraction (size ∙ count ∙ sym (held-count (tasksIn (a .graph .rules)) (a .m .now) (a .graph .n) (nodes P) (h .nodes)))
           (sym (c .before .within-limits .ensures) ∙ not-true _ (c .if3 .taken)),
       only-refl,
     )
 
 edges-hold-requires : tie.Need-edges-hold-requires
 edges-hold-requires c κs =
-    let start = c .before .before .before .before .before .before .before .before .before .before in
+    let start = c .before .before .before .before .before .before .before .before .before .before .before in
     let a = start .args in
     let bs = a .s .now in
     let z = certificateOf bs (a .parts) in
     let fraction = sym (c .before .before .before .before .before .before .fraction-ok .ensures) ∙ not-false _ (c .before .before .before .before .before .if1 .left) in
     let size = items-length (potentialIn bs) headSize potentialSize (a .parts .count) in
-    let count : a .parts .count ≡ a .n = c .before .before .before .if2 .left in
+    let count : a .parts .count ≡ a .graph .n = c .before .before .before .if2 .left in
     let within = sym (c .before .before .within-limits .ensures) ∙ not-false _ (c .before .if3 .left) in
     let held = start .pre .1 in (
       start .pre .0,
-      record { plan = held .plan; certificate = z; test = tested (held .plan) (a .rules) (a .next .now) (a .m .now) bs (a .n) (a .parts) (held .planned) (held .holds) (start .pre .2) fraction count within },
+      record { plan = held .plan; certificate = z; test = tested (held .plan) (a .graph .rules) (a .next .now) (a .m .now) bs (a .graph .n) (a .parts) (held .planned) (held .holds) (start .pre .2) fraction count within },
       start .pre .3,
     )
 
@@ -102,18 +102,18 @@ same-length c = search needs
 
 returns-4 : tie.Need-returns-4
 returns-4 c =
-    let start = c .before .before .before .before .before .before .before .before .before .before .before .before .before .before in
+    let start = c .before .before .before .before .before .before .before .before .before .before .before .before .before .before .before in
     let a = start .args in
     let bs = a .s .now in
     let z = certificateOf bs (a .parts) in
     let fraction = sym (c .before .before .before .before .before .before .before .before .before .before .fraction-ok .ensures) ∙ not-false _ (c .before .before .before .before .before .before .before .before .before .if1 .left) in
     let size = items-length (potentialIn bs) headSize potentialSize (a .parts .count) in
-    let count : a .parts .count ≡ a .n = c .before .before .before .before .before .before .before .if2 .left in
+    let count : a .parts .count ≡ a .graph .n = c .before .before .before .before .before .before .before .if2 .left in
     let within = sym (c .before .before .before .before .before .before .within-limits .ensures) ∙ not-false _ (c .before .before .before .before .before .if3 .left) in
     let edges = c .before .before .before .edges-hold .ensures in (
-      λ P p h. bad-edge P z fraction (size ∙ count ∙ sym (held-count (tasksIn (a .rules)) (a .m .now) (a .n) (nodes P) (h .nodes)))
+      λ P p h. bad-edge P z fraction (size ∙ count ∙ sym (held-count (tasksIn (a .graph .rules)) (a .m .now) (a .graph .n) (nodes P) (h .nodes)))
           within (sym (not-true _ (c .if4 .taken)) ∙ edges .0 P z
-          (tested P (a .rules) (a .next .now) (a .m .now) bs (a .n) (a .parts) p h (start .pre .2) fraction count within)),
+          (tested P (a .graph .rules) (a .next .now) (a .m .now) bs (a .graph .n) (a .parts) p h (start .pre .2) fraction count within)),
       edges .1,
     )
 
@@ -125,25 +125,25 @@ same-length-2 c = search needs
 
 returns-5 : tie.Need-returns-5
 returns-5 c =
-    let start = c .before .before .before .before .before .before .before .before .before .before .before .before .before .before .before .before in
+    let start = c .before .before .before .before .before .before .before .before .before .before .before .before .before .before .before .before .before in
     let a = start .args in
     let bs = a .s .now in
     let z = certificateOf bs (a .parts) in
     let fraction = sym (c .before .before .before .before .before .before .before .before .before .before .before .before .fraction-ok .ensures) ∙ not-false _ (c .before .before .before .before .before .before .before .before .before .before .before .if1 .left) in
     let size = items-length (potentialIn bs) headSize potentialSize (a .parts .count) in
-    let count : a .parts .count ≡ a .n = c .before .before .before .before .before .before .before .before .before .if2 .left in
+    let count : a .parts .count ≡ a .graph .n = c .before .before .before .before .before .before .before .before .before .if2 .left in
     let within = sym (c .before .before .before .before .before .before .before .before .within-limits .ensures) ∙ not-false _ (c .before .before .before .before .before .before .before .if3 .left) in
     let edges = c .before .before .before .before .before .edges-hold .ensures in (
-      λ P p h. bad-cycle P z fraction (size ∙ count ∙ sym (held-count (tasksIn (a .rules)) (a .m .now) (a .n) (nodes P) (h .nodes)))
+      λ P p h. bad-cycle P z fraction (size ∙ count ∙ sym (held-count (tasksIn (a .graph .rules)) (a .m .now) (a .graph .n) (nodes P) (h .nodes)))
           within (sym (not-false _ (c .before .before .if4 .left)) ∙ edges .0 P z
-          (tested P (a .rules) (a .next .now) (a .m .now) bs (a .n) (a .parts) p h (start .pre .2) fraction count within))
+          (tested P (a .graph .rules) (a .next .now) (a .m .now) bs (a .graph .n) (a .parts) p h (start .pre .2) fraction count within))
           (sym (not-true _ (c .if5 .taken)) ∙ c .before .holds .ensures P p h),
       edges .1,
     )
 
 allowance-requires : tie.Need-allowance-requires
 allowance-requires c κs =
-    let start = c .before .before .before .before .before .before .before .before .before .before .before .before .before .before .before .before in
+    let start = c .before .before .before .before .before .before .before .before .before .before .before .before .before .before .before .before .before in
     (start .pre .2, sym (c .before .before .before .before .before .before .before .before .within-limits .ensures) ∙ not-false _ (c .before .before .before .before .before .before .before .if3 .left))
 
 same-length-3 : tie.Need-same-length-3
@@ -151,19 +151,19 @@ same-length-3 c = search needs
 
 returns-6 : tie.Need-returns-6
 returns-6 c =
-    let start = c .before .before .before .before .before .before .before .before .before .before .before .before .before .before .before .before .before in
+    let start = c .before .before .before .before .before .before .before .before .before .before .before .before .before .before .before .before .before .before in
     let a = start .args in
     let bs = a .s .now in
     let z = certificateOf bs (a .parts) in
     let fraction = sym (c .before .before .before .before .before .before .before .before .before .before .before .before .before .fraction-ok .ensures) ∙ not-false _ (c .before .before .before .before .before .before .before .before .before .before .before .before .if1 .left) in
     let size = items-length (potentialIn bs) headSize potentialSize (a .parts .count) in
-    let count : a .parts .count ≡ a .n = c .before .before .before .before .before .before .before .before .before .before .if2 .left in
+    let count : a .parts .count ≡ a .graph .n = c .before .before .before .before .before .before .before .before .before .before .if2 .left in
     let within = sym (c .before .before .before .before .before .before .before .before .before .within-limits .ensures) ∙ not-false _ (c .before .before .before .before .before .before .before .before .if3 .left) in
     let edges = c .before .before .before .before .before .before .edges-hold .ensures in (
       λ P p h. (λ i. share (a .parts .p) (a .parts .q) ((sym count ∙ sym size) i) (c .allowance .ensures i))
-          ∙ accepted P z fraction (size ∙ count ∙ sym (held-count (tasksIn (a .rules)) (a .m .now) (a .n) (nodes P) (h .nodes)))
+          ∙ accepted P z fraction (size ∙ count ∙ sym (held-count (tasksIn (a .graph .rules)) (a .m .now) (a .graph .n) (nodes P) (h .nodes)))
           within (sym (not-false _ (c .before .before .before .if4 .left)) ∙ edges .0 P z
-          (tested P (a .rules) (a .next .now) (a .m .now) bs (a .n) (a .parts) p h (start .pre .2) fraction count within))
+          (tested P (a .graph .rules) (a .next .now) (a .m .now) bs (a .graph .n) (a .parts) p h (start .pre .2) fraction count within))
           (sym (not-false _ (c .before .if5 .left)) ∙ c .before .before .holds .ensures P p h),
       edges .1,
     )
