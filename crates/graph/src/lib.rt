@@ -50,6 +50,12 @@ struct Chosen {
     masks: [u8; MAX_TASKS],
 }
 
+// The masks of the table from `at` up to `end`.
+struct Span {
+    at: usize,
+    end: usize,
+}
+
 // The gain of a mask for a task.
 fn worth(task: Task, m: u8) -> u32
     ensures { λ r. ⌜ (r ≡ cond (eqb m 0) 0 (task .value)) × (r ≤ maxValue) ⌝ }
@@ -139,32 +145,33 @@ fn note_task(
     if i == release.count {
         return note(memory, count, chosen);
     }
-    let idle = note_masks(table, release, chosen, 0, 1, memory, count);
+    let none = Span { at: 0, end: 1 };
+    let idle = note_masks(table, release, chosen, none, memory, count);
     if !is_released(release.label, i) {
         return idle;
     }
     let task = task_at(release, i);
     let work = task.work as usize;
     let window = task.window as usize;
-    let start = masks::group_start(work);
+    let at = masks::group_start(work);
     let end = masks::group_end(work, window);
-    note_masks(table, release, chosen, start, end, memory, idle)
+    note_masks(table, release, chosen, Span { at, end }, memory, idle)
 }
 
-// Notes the outcomes of the choices with a mask of the table, from `at` up to `end`, for the next task.
+// Notes the outcomes of the choices with a mask of a span of the table for the next task.
 fn note_masks(
     table: &[u8; masks::COUNT],
     release: Release,
     chosen: Chosen,
-    at: usize,
-    end: usize,
+    span: Span,
     memory: &mut [u8],
     count: usize,
 ) -> usize
-    requires { ⌜ (now table ≡ maskTable) × Released release × InBounds chosen × (chosen .task < release .count) × (at ≤ end) × (end ≤ maskCount) × Room (now memory) count ⌝ }
-    ensures { λ r. ⌜ Noting (maskOutcomes release chosen at end) (now (memory .entry)) count (now (memory .exit)) r ⌝ }
+    requires { ⌜ (now table ≡ maskTable) × Released release × InBounds chosen × (chosen .task < release .count) × (span .at ≤ span .end) × (span .end ≤ maskCount) × Room (now memory) count ⌝ }
+    ensures { λ r. ⌜ Noting (maskOutcomes release chosen (span .at) (span .end)) (now (memory .entry)) count (now (memory .exit)) r ⌝ }
 {
-    let k = masks::next_clear(table, at, end, chosen.pattern);
+    let end = span.end;
+    let k = masks::next_clear(table, span.at, end, chosen.pattern);
     if k == end {
         return count;
     }
@@ -172,7 +179,8 @@ fn note_masks(
     let task = task_at(release, chosen.task);
     let next = with_mask(chosen, task, m);
     let after = note_task(table, release, next, memory, count);
-    note_masks(table, release, chosen, k + 1, end, memory, after)
+    let at = k + 1;
+    note_masks(table, release, chosen, Span { at, end }, memory, after)
 }
 
 // Room for notes.

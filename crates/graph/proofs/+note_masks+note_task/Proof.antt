@@ -33,7 +33,7 @@ use Rattle.graph.proofs.+note_masks+note_task.{statement}
 use Rattle.graph.proofs.+note_masks+note_task.Tie.{close}
 
 abbrev μ-note-masks : Measures 2 note-masks-kinds.ps ℕ
-μ-note-masks κs a = suc maskCount * (a .1 .0 .count - a .1 .1 .0 .task - 1) + (a .1 .1 .1 .1 .0 - a .1 .1 .1 .0)
+μ-note-masks κs a = suc maskCount * (a .1 .0 .count - a .1 .1 .0 .task - 1) + (a .1 .1 .1 .0 .end - a .1 .1 .1 .0 .at)
 
 abbrev μ-note-task : Measures 2 note-task-kinds.ps ℕ
 μ-note-task κs a = suc maskCount * (a .1 .0 .count - a .1 .1 .0 .task)
@@ -91,8 +91,8 @@ note-masks-returns t c =
     let s = c .before .before .before in
     let p = s .pre .1 in
     let a = s .args in
-    rw (mask-next (a .release) (a .chosen) (p .1) (a .at) (a .end) (c .before .next-clear .result) (p .5) (c .before .next-clear .ensures)
-    ∙ mask-none (a .release) (a .chosen) (p .1) (c .before .next-clear .result) (a .end) (c .if1 .taken))
+    rw (mask-next (a .release) (a .chosen) (p .1) (a .span .at) (a .span .end) (c .before .next-clear .result) (p .5) (c .before .next-clear .ensures)
+    ∙ mask-none (a .release) (a .chosen) (p .1) (c .before .next-clear .result) (a .span .end) (c .if1 .taken))
     (noting-none (a .memory .now) (a .count) (p .6))
 
 note-masks-element-copy-out-m : (t : ℕ) → note-masks-lts.Need-element-copy-out-m (masks-claims t) (note-masks-at t) note-masks.Post
@@ -122,8 +122,8 @@ note-masks-note-task-requires t c κs =
     let next = ap (λ (x : Chosen). x .task) (w .0) in
     (omega (arith, s .pre .0, next), (p .0, p .1, w .1, omega (arith, next, p .3), p .6))
 
-note-masks-add-note-masks : (t : ℕ) → note-masks-lts.Need-add-note-masks (masks-claims t) (note-masks-at t) note-masks.Post
-note-masks-add-note-masks t c =
+note-masks-add-at : (t : ℕ) → note-masks-lts.Need-add-at (masks-claims t) (note-masks-at t) note-masks.Post
+note-masks-add-at t c =
     let p = c .before .before .before .before .before .before .before .before .before .before .pre .1 in
     omega (arith, p .5, c .before .before .before .before .before .before .before .before .next-clear .ensures .within)
 
@@ -145,14 +145,14 @@ note-masks-returns-2 t c =
     let a = s .args in
     let found = c .before .before .before .before .before .before .before .before .before .before .before .before .next-clear in
     let k = found .result in
-    let below : k < a .end = omega (arith, c .before .before .before .before .before .before .before .before .before .before .before .if1 .left, found .ensures .within) in
+    let below : k < a .span .end = omega (arith, c .before .before .before .before .before .before .before .before .before .before .before .if1 .left, found .ensures .within) in
     let mask = ap (λ (l : List ℕ). getD l k 0) (p .0) in
     let next = c .before .before .before .before .before .before .before .before .with-mask .ensures .0 ∙ ap₂ (λ (x : Task) (m : ℕ). chosenWith x (a .chosen) m) (c .before .before .before .before .before .before .before .before .before .task-at .ensures) mask in
     let first = c .before .before .before .before .before .before .note-task in
     let second = c .before .before .note-masks in
-    rw (mask-next (a .release) (a .chosen) (p .1) (a .at) (a .end) k (p .5) (found .ensures)
-    ∙ mask-take (a .release) (a .chosen) (p .1) k (a .end) below (p .5) (found .ensures .clear below))
-    (noting-append _ _ (a .memory .now) (a .count) (first .last .1 .1 .1 .0) (first .result) (second .last .1 .1 .1 .1 .1 .0) (second .result)
+    rw (mask-next (a .release) (a .chosen) (p .1) (a .span .at) (a .span .end) k (p .5) (found .ensures)
+    ∙ mask-take (a .release) (a .chosen) (p .1) k (a .span .end) below (p .5) (found .ensures .clear below))
+    (noting-append _ _ (a .memory .now) (a .count) (first .last .1 .1 .1 .0) (first .result) (second .last .1 .1 .1 .1 .0) (second .result)
     (subst (λ (x : Chosen). Noting (nextOutcomes (a .release) x) (a .memory .now) (a .count) (first .last .1 .1 .1 .0) (first .result)) next (first .ensures))
     (second .ensures))
 
@@ -244,9 +244,9 @@ note-task-returns-3 t c =
     let second = c .before .before .note-masks2 in
     rw
     (next-released (a .release) (a .chosen) (p .1) (omega (arith, p .3, c .before .before .before .before .before .before .before .before .before .before .before .before .before .before .before .if1 .left)) (sym (c .before .before .before .before .before .before .before .before .before .before .is-released .ensures) ∙ not-false (c .before .before .before .before .before .before .before .before .before .before .is-released .result) (c .before .before .before .before .before .before .before .before .before .if2 .left)))
-    (noting-append _ _ (a .memory .now) (a .count) (first .last .1 .1 .1 .1 .1 .0) (first .result) (second .last .1 .1 .1 .1 .1 .0) (second .result)
+    (noting-append _ _ (a .memory .now) (a .count) (first .last .1 .1 .1 .1 .0) (first .result) (second .last .1 .1 .1 .1 .0) (second .result)
     (first .ensures)
-    (subst (λ os. Noting os (first .last .1 .1 .1 .1 .1 .0) (first .result) (second .last .1 .1 .1 .1 .1 .0) (second .result)) (ap₂ (maskOutcomes (a .release) (a .chosen)) at end) (second .ensures)))
+    (subst (λ os. Noting os (first .last .1 .1 .1 .1 .0) (first .result) (second .last .1 .1 .1 .1 .0) (second .result)) (ap₂ (maskOutcomes (a .release) (a .chosen)) at end) (second .ensures)))
 
 pub +note-masks+note-task-spec : {M : Type 1} → statement M
 +note-masks+note-task-spec = close μ-note-masks μ-note-task (λ t. note-masks-lts.spec (masks-claims t)
@@ -258,7 +258,7 @@ pub +note-masks+note-task-spec : {M : Type 1} → statement M
     (note-masks-task-at-requires t)
     (note-masks-with-mask-requires t)
     (note-masks-note-task-requires t)
-    (note-masks-add-note-masks t)
+    (note-masks-add-at t)
     (note-masks-note-masks-requires t)
     (note-masks-same-length t)
     (note-masks-returns-2 t))
