@@ -42,7 +42,7 @@ label-none s leads none = record {
 module _ {P : Plan} {r : Rules} {next m : List ℕ} {prices : Prices} {u : ℕ} {node : Node} {l to : ℕ} {before notes : List ℕ} {d : Noted}
     (s : Sought P r next m prices) (t : Expanded P r next m (prices .n) u node l to before notes d) where
   abbrev out : Outcomes
-  out = record { label = l; count = d .count; cells = d .done .cells; state = to - 1; kept = d .done .gain }
+  out = record { number = u; label = l; count = d .count; cells = d .done .cells; state = to - 1; kept = d .done .gain }
 
   -- the weight of a noted edge
   noted-weight : {v p : ℕ} (b : NotedBest P u l v notes d p) →
@@ -51,7 +51,7 @@ module _ {P : Plan} {r : Rules} {next m : List ℕ} {prices : Prices} {u : ℕ} 
       let gain : b .edge .ideal ≡ gainIn notes (d .count) p = omega (arith, b .ideal) in
       ap₂ (λ (x y : ℕ). pos (prices .q * x) -ℤ pos (prices .p * y)) (b .kept) gain
 
-  pub label-offers : stateIn m .known u ≡ true → Offers P prices m notes u out
+  pub label-offers : stateIn m .known u ≡ true → Offers P prices m notes out
   label-offers known =
       let sound = sound-plan P (s .priced .planned .sound) in
       let fits = fraction-fits (prices .p) (prices .q) (s .priced .fraction) in record {
@@ -75,7 +75,7 @@ module _ {P : Plan} {r : Rules} {next m : List ℕ} {prices : Prices} {u : ℕ} 
       }
 
   -- every edge of the label is one of them
-  pub label-done : {m′ : List ℕ} {tried : Tried} → RelaxesAll P prices u out notes m m′ tried → RelaxesLabel P prices u l m m′ tried
+  pub label-done : {m′ : List ℕ} {tried : Tried} → RelaxesAll P prices out notes m m′ tried → RelaxesLabel P prices u l m m′ tried
   label-done {m′} {tried} a = record { advance = a .advance; done = done; source = a .source }
     where
       done : tried .steps ≡ 0 → DoneBy P prices m′ u l

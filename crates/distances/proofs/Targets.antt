@@ -32,9 +32,9 @@ distance-small P prices m s within few u below known =
     (up-or-dn z)
 
 -- the k-th outcome offers its node at its distance
-pub offer-of : {P : Plan} {prices : Prices} {m notes : List ℕ} {u : ℕ} {out : Outcomes} → Offers P prices m notes u out → (k : ℕ) → k < out .count →
-    {v : ℕ} {z : ℤ} → v ≡ targetOf prices m notes out k → z ≡ distanceBy prices m notes u out k → Offer P prices m u (out .label) v z
-offer-of {P} {prices} {m} {notes} {u} {out} o k h e d = record {
+pub offer-of : {P : Plan} {prices : Prices} {m notes : List ℕ} {out : Outcomes} → Offers P prices m notes out → (k : ℕ) → k < out .count →
+    {v : ℕ} {z : ℤ} → v ≡ targetOf prices m notes out k → z ≡ distanceBy prices m notes out k → Offer P prices m (out .number) (out .label) v z
+offer-of {P} {prices} {m} {notes} {out} o k h e d = record {
   few = o .few;
   room = o .room;
   within = o .within;
@@ -43,6 +43,6 @@ offer-of {P} {prices} {m} {notes} {u} {out} o k h e d = record {
   to = subst (λ (x : ℕ). x < prices .n) (sym e) (o .below k h);
   known = o .known;
   weight = weightOf prices (out .kept) notes (out .count) k;
-  link = subst (λ (x : ℕ). LinkOf P prices u (out .label) x (weightOf prices (out .kept) notes (out .count) k)) (sym e) (o .link k h);
+  link = subst (λ (x : ℕ). LinkOf P prices (out .number) (out .label) x (weightOf prices (out .kept) notes (out .count) k)) (sym e) (o .link k h);
   distance = d;
 }

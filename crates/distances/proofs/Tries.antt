@@ -22,11 +22,11 @@ use Rattle.distances.proofs.Rows.{rows-kept, index-kept, distinct-kept}
 use Rattle.distances.proofs.Advances.{advance-none, advance-then, advance-circuit}
 
 -- the first k outcomes are tried, without a circuit
-pub record Trying (P : Plan) (prices : Prices) (u : ℕ) (out : Outcomes) (notes before m : List ℕ) (moved : Bool) (k : ℕ) : Type 0 where
-  pub offers : Offers P prices m notes u out
+pub record Trying (P : Plan) (prices : Prices) (out : Outcomes) (notes before m : List ℕ) (moved : Bool) (k : ℕ) : Type 0 where
+  pub offers : Offers P prices m notes out
   pub advance : Advance P prices before m (record { moved = moved; steps = 0 })
-  pub reached : (j : ℕ) → j < k → Reached m (targetOf prices before notes out j) (distanceBy prices before notes u out j)
-  pub source : stateIn m .dist u ≡ stateIn before .dist u
+  pub reached : (j : ℕ) → j < k → Reached m (targetOf prices before notes out j) (distanceBy prices before notes out j)
+  pub source : stateIn m .dist (out .number) ≡ stateIn before .dist (out .number)
 
 -- the same node, where the rows are the same
 target-kept : (prices : Prices) (out : Outcomes) (notes : List ℕ) {m m′ : List ℕ} → prices .n ≤ maxRows → Only linksAt (linksSize + stepsSize) m m′ → (j : ℕ) →
@@ -34,9 +34,9 @@ target-kept : (prices : Prices) (out : Outcomes) (notes : List ℕ) {m m′ : Li
 target-kept prices out notes few o j =
     ap (λ rows. indexIn rows (rowOf (withPattern (out .cells) (out .state) (patternIn notes j)))) (rows-kept o (prices .n) few)
 
-module _ {P : Plan} {prices : Prices} {u : ℕ} {out : Outcomes} {notes : List ℕ} where
+module _ {P : Plan} {prices : Prices} {out : Outcomes} {notes : List ℕ} where
   -- the outcomes stay offered
-  offers-after : {m m′ : List ℕ} {t : Tried} → Offers P prices m notes u out → Advance P prices m m′ t → t .steps ≡ 0 → Offers P prices m′ notes u out
+  offers-after : {m m′ : List ℕ} {t : Tried} → Offers P prices m notes out → Advance P prices m m′ t → t .steps ≡ 0 → Offers P prices m′ notes out
   offers-after {m} {m′} o a none =
       let few = o .index .few in record {
         few = o .few;
@@ -46,7 +46,7 @@ module _ {P : Plan} {prices : Prices} {u : ℕ} {out : Outcomes} {notes : List �
         index = index-kept (a .only) (o .index);
         distinct = distinct-kept (a .only) few (o .distinct);
         from = o .from;
-        known = a .progress none .later .known u (o .from) (o .known);
+        known = a .progress none .later .known (out .number) (o .from) (o .known);
         size = o .size;
         fitsP = o .fitsP;
         fitsQ = o .fitsQ;
@@ -54,10 +54,10 @@ module _ {P : Plan} {prices : Prices} {u : ℕ} {out : Outcomes} {notes : List �
         noted = o .noted;
         below = λ j h. subst (λ (x : ℕ). x < prices .n) (sym (target-kept prices out notes few (a .only) j)) (o .below j h);
         link = λ j h.
-            subst (λ (x : ℕ). LinkOf P prices u (out .label) x (weightOf prices (out .kept) notes (out .count) j)) (sym (target-kept prices out notes few (a .only) j)) (o .link j h);
+            subst (λ (x : ℕ). LinkOf P prices (out .number) (out .label) x (weightOf prices (out .kept) notes (out .count) j)) (sym (target-kept prices out notes few (a .only) j)) (o .link j h);
       }
 
-  pub trying-start : {m : List ℕ} → Offers P prices m notes u out → Trying P prices u out notes m m false 0
+  pub trying-start : {m : List ℕ} → Offers P prices m notes out → Trying P prices out notes m m false 0
   trying-start o = record {
     offers = o;
     advance = advance-none (o .search);
@@ -65,14 +65,14 @@ module _ {P : Plan} {prices : Prices} {u : ℕ} {out : Outcomes} {notes : List �
     source = refl;
   }
 
-  module _ {before m m′ : List ℕ} {moved : Bool} {k : ℕ} {t : Tried} (s : Trying P prices u out notes before m moved k) (h : k < out .count)
-      (r : RelaxesOne P prices u out k notes m m′ t) where
+  module _ {before m m′ : List ℕ} {moved : Bool} {k : ℕ} {t : Tried} (s : Trying P prices out notes before m moved k) (h : k < out .count)
+      (r : RelaxesOne P prices out k notes m m′ t) where
     -- the k-th as it stood before
     same-target : (j : ℕ) → targetOf prices m notes out j ≡ targetOf prices before notes out j
     same-target = target-kept prices out notes (s .offers .index .few) (s .advance .only)
 
     -- one more is tried
-    pub trying-next : t .steps ≡ 0 → Trying P prices u out notes before m′ (moved || t .moved) (k + 1)
+    pub trying-next : t .steps ≡ 0 → Trying P prices out notes before m′ (moved || t .moved) (k + 1)
     trying-next none = record {
       offers = offers-after (s .offers) (r .advance) none;
       advance = advance-then (s .advance) refl (r .advance) none;
@@ -80,7 +80,7 @@ module _ {P : Plan} {prices : Prices} {u : ℕ} {out : Outcomes} {notes : List �
       source = r .source none ∙ s .source;
     }
       where
-        by : (j : ℕ) → j < k + 1 → Dec (j < k) → Reached m′ (targetOf prices before notes out j) (distanceBy prices before notes u out j)
+        by : (j : ℕ) → j < k + 1 → Dec (j < k) → Reached m′ (targetOf prices before notes out j) (distanceBy prices before notes out j)
         by j below (yes l) =
             let was = s .reached j l in
             let place = subst (λ (x : ℕ). x < prices .n) (same-target j) (s .offers .below j (omega arith)) in
@@ -88,12 +88,12 @@ module _ {P : Plan} {prices : Prices} {u : ℕ} {out : Outcomes} {notes : List �
             (later .known _ place (was .0), ≤ℤ-trans (later .dist _ place (was .0)) (was .1))
         by j below (no l) =
             let e : j ≡ k = omega arith in
-            subst (λ (i : ℕ). Reached m′ (targetOf prices before notes out i) (distanceBy prices before notes u out i)) (sym e)
-            (subst (λ (x : ℕ). Reached m′ x (distanceBy prices before notes u out k)) (same-target k)
+            subst (λ (i : ℕ). Reached m′ (targetOf prices before notes out i) (distanceBy prices before notes out i)) (sym e)
+            (subst (λ (x : ℕ). Reached m′ x (distanceBy prices before notes out k)) (same-target k)
             (subst (λ z. Reached m′ (targetOf prices m notes out k) (z +ℤ weightOf prices (out .kept) notes (out .count) k)) (s .source) (r .reached none)))
 
     -- or it closes a circuit
-    pub trying-stops : 0 < t .steps → RelaxesAll P prices u out notes before m′ t
+    pub trying-stops : 0 < t .steps → RelaxesAll P prices out notes before m′ t
     trying-stops found = record {
       advance = advance-circuit (s .advance) refl (r .advance) found;
       reached = λ e. absurd (omega arith);
@@ -101,6 +101,6 @@ module _ {P : Plan} {prices : Prices} {u : ℕ} {out : Outcomes} {notes : List �
     }
 
   -- all are tried
-  pub trying-all : {before m : List ℕ} {moved : Bool} {k : ℕ} → Trying P prices u out notes before m moved k → out .count ≤ k →
-      RelaxesAll P prices u out notes before m (record { moved = moved; steps = 0 })
+  pub trying-all : {before m : List ℕ} {moved : Bool} {k : ℕ} → Trying P prices out notes before m moved k → out .count ≤ k →
+      RelaxesAll P prices out notes before m (record { moved = moved; steps = 0 })
   trying-all s h = record { advance = s .advance; reached = λ e j l. s .reached j (omega arith); source = λ e. s .source }

@@ -112,46 +112,46 @@ weightOf prices kept notes count k = pos (prices .q * kept) -ℤ pos (prices .p 
 abbrev pub targetOf : Prices → List ℕ → List ℕ → Outcomes → ℕ → ℕ
 targetOf prices m notes out k = placeOf m (prices .n) (out .cells) (out .state) (patternIn notes k)
 
-abbrev pub distanceBy : Prices → List ℕ → List ℕ → ℕ → Outcomes → ℕ → ℤ
-distanceBy prices m notes u out k = stateIn m .dist u +ℤ weightOf prices (out .kept) notes (out .count) k
+abbrev pub distanceBy : Prices → List ℕ → List ℕ → Outcomes → ℕ → ℤ
+distanceBy prices m notes out k = stateIn m .dist (out .number) +ℤ weightOf prices (out .kept) notes (out .count) k
 
--- the distance of u with the policy's weight
-abbrev pub highOf : Prices → List ℕ → ℕ → Outcomes → ℤ
-highOf prices m u out = stateIn m .dist u +ℤ pos (prices .q * out .kept)
+-- the distance of the node that the label leaves, with the policy's weight
+abbrev pub highOf : Prices → List ℕ → Outcomes → ℤ
+highOf prices m out = stateIn m .dist (out .number) +ℤ pos (prices .q * out .kept)
 
--- the noted patterns are where a label leads from u, which is known
-pub record Offers (P : Plan) (prices : Prices) (m notes : List ℕ) (u : ℕ) (out : Outcomes) : Type 0 where
+-- the noted patterns are where the label leads from the node, which is known
+pub record Offers (P : Plan) (prices : Prices) (m notes : List ℕ) (out : Outcomes) : Type 0 where
   pub few : prices .n ≤ maxNodes
   pub room : linksEnd ≤ length m
   pub within : Within (LinkOf P prices) (prices .n) maxWeight
   pub search : SearchIn P prices m
   pub index : Indexed m (prices .n)
   pub distinct : Distinct (rowsIn m (prices .n))
-  pub from : u < prices .n
-  pub known : stateIn m .known u ≡ true
+  pub from : out .number < prices .n
+  pub known : stateIn m .known (out .number) ≡ true
   pub size : length (out .cells) ≡ cellCount
   pub fitsP : prices .p ≤ maxP
   pub fitsQ : prices .q ≤ maxQ
   pub readable : Readable notes (out .count)
   pub noted : (k : ℕ) → k < out .count → 0 < scoreIn notes (out .count) (patternIn notes k)
   pub below : (k : ℕ) → k < out .count → targetOf prices m notes out k < prices .n
-  pub link : (k : ℕ) → k < out .count → LinkOf P prices u (out .label) (targetOf prices m notes out k) (weightOf prices (out .kept) notes (out .count) k)
+  pub link : (k : ℕ) → k < out .count → LinkOf P prices (out .number) (out .label) (targetOf prices m notes out k) (weightOf prices (out .kept) notes (out .count) k)
 
-pub record Offering (prices : Prices) (m notes : List ℕ) (u : ℕ) (out : Outcomes) : Type 0 where
+pub record Offering (prices : Prices) (m notes : List ℕ) (out : Outcomes) : Type 0 where
   pub plan : Plan
-  pub offers : Offers plan prices m notes u out
+  pub offers : Offers plan prices m notes out
 
 -- what holds after the k-th is tried
-abbrev pub RelaxesOne : Plan → Prices → ℕ → Outcomes → ℕ → List ℕ → List ℕ → List ℕ → Tried → Type 0
-RelaxesOne P prices u out k notes before after t =
-    Relaxes P prices u (targetOf prices before notes out k) (distanceBy prices before notes u out k) before after t
+abbrev pub RelaxesOne : Plan → Prices → Outcomes → ℕ → List ℕ → List ℕ → List ℕ → Tried → Type 0
+RelaxesOne P prices out k notes before after t =
+    Relaxes P prices (out .number) (targetOf prices before notes out k) (distanceBy prices before notes out k) before after t
 
--- the search has come further, and then each of the patterns' nodes is reached, and u stands where it did
-pub record RelaxesAll (P : Plan) (prices : Prices) (u : ℕ) (out : Outcomes) (notes before after : List ℕ) (t : Tried) : Type 0 where
+-- the search has come further, and then each of the patterns' nodes is reached, and the node that the label leaves stands where it did
+pub record RelaxesAll (P : Plan) (prices : Prices) (out : Outcomes) (notes before after : List ℕ) (t : Tried) : Type 0 where
   pub advance : Advance P prices before after t
   pub reached : t .steps ≡ 0 → (k : ℕ) → k < out .count →
-      Reached after (targetOf prices before notes out k) (distanceBy prices before notes u out k)
-  pub source : t .steps ≡ 0 → stateIn after .dist u ≡ stateIn before .dist u
+      Reached after (targetOf prices before notes out k) (distanceBy prices before notes out k)
+  pub source : t .steps ≡ 0 → stateIn after .dist (out .number) ≡ stateIn before .dist (out .number)
 
 -- every node that the label l leads to from u is reached
 abbrev pub DoneBy : Plan → Prices → List ℕ → ℕ → ℕ → Type 0

@@ -30,8 +30,16 @@ pub struct Tried {
     pub steps: usize,
 }
 
-// Where a label leads from a node: so many noted patterns, each with the policy's cells and gain and the automaton's state.
+// A node with its number, and a label to leave it by.
+struct Source {
+    number: usize,
+    node: Node,
+    label: u8,
+}
+
+// Where a label leads from a numbered node: so many noted patterns, each with the policy's cells and gain and the automaton's state.
 struct Outcomes {
+    number: usize,
     label: u8,
     count: usize,
     cells: [u8; policy::CELLS],
@@ -83,18 +91,17 @@ fn relax(m: &mut [u8], u: usize, label: u8, v: usize, z: i64) -> Tried
     }
 }
 
-// Tries the k-th noted outcome of a label from u: `high` is u's distance with the policy's weight.
+// Tries the k-th noted outcome of a label: `high` is the distance of the node it leaves, with the policy's weight.
 fn relax_outcome(
     prices: Prices,
-    u: usize,
     out: Outcomes,
     high: i64,
     k: usize,
     notes: &[u8],
     m: &mut [u8],
 ) -> Tried
-    requires { ⌜ Offering prices (now m) (now notes) u out × (k < out .count) × (high ≡ highOf prices (now m) u out) ⌝ }
-    ensures { λ t. ⌜ ((P : Plan) → Offers P prices (now (m .entry)) (now (notes .entry)) u out → RelaxesOne P prices u out k (now (notes .entry)) (now (m .entry)) (now (m .exit)) t) ⌝ }
+    requires { ⌜ Offering prices (now m) (now notes) out × (k < out .count) × (high ≡ highOf prices (now m) out) ⌝ }
+    ensures { λ t. ⌜ ((P : Plan) → Offers P prices (now (m .entry)) (now (notes .entry)) out → RelaxesOne P prices out k (now (notes .entry)) (now (m .entry)) (now (m .exit)) t) ⌝ }
 {
     let taken = graph::noted_pattern(notes, out.count, k);
     let gain = graph::best_score(notes, taken as usize) - 1;
@@ -106,21 +113,21 @@ fn relax_outcome(
         state: out.state,
     });
     let v = store::find(m, prices.n, &row);
-    relax(m, u, out.label, v, z)
+    relax(m, out.number, out.label, v, z)
 }
 
-// Tries the noted outcomes of a label from u.
-fn relax_outcomes(prices: Prices, u: usize, out: Outcomes, notes: &[u8], m: &mut [u8]) -> Tried
-    requires { ⌜ Offering prices (now m) (now notes) u out ⌝ }
-    ensures { λ t. ⌜ ((P : Plan) → Offers P prices (now (m .entry)) (now (notes .entry)) u out → RelaxesAll P prices u out (now (notes .entry)) (now (m .entry)) (now (m .exit)) t) ⌝ }
+// Tries the noted outcomes of a label.
+fn relax_outcomes(prices: Prices, out: Outcomes, notes: &[u8], m: &mut [u8]) -> Tried
+    requires { ⌜ Offering prices (now m) (now notes) out ⌝ }
+    ensures { λ t. ⌜ ((P : Plan) → Offers P prices (now (m .entry)) (now (notes .entry)) out → RelaxesAll P prices out (now (notes .entry)) (now (m .entry)) (now (m .exit)) t) ⌝ }
 {
-    let from = links::link_to(m, u);
+    let from = links::link_to(m, out.number);
     let high = from.distance + potentials::times(prices.q, out.kept);
     let count = out.count;
     let mut moved = false;
     let mut k = 0;
     while k < count {
-        let tried = relax_outcome(prices, u, out, high, k, notes, m);
+        let tried = relax_outcome(prices, out, high, k, notes, m);
         if tried.steps != 0 {
             return tried;
         }
@@ -130,21 +137,21 @@ fn relax_outcomes(prices: Prices, u: usize, out: Outcomes, notes: &[u8], m: &mut
     Tried { moved, steps: 0 }
 }
 
-// Tries the edges of a label from the node numbered u.
+// Tries the edges of a label from the source.
 fn relax_label(
     prices: Prices,
     next: &[u8; plan::PAIRS],
     rules: Rules,
-    u: usize,
-    node: Node,
-    label: u8,
+    source: Source,
     notes: &mut [u8],
     m: &mut [u8],
 ) -> Tried
-    requires { ⌜ Ruled rules × Seeking rules (now next) (now m) prices × Numbered (now m) (prices .n) u node × (stateIn (now m) .known u ≡ true) × (noteRoom ≤ length (now notes)) ⌝ }
-    ensures { λ t. ⌜ ((P : Plan) → Sought P rules (now (next .entry)) (now (m .entry)) prices → RelaxesLabel P prices u label (now (m .entry)) (now (m .exit)) t) ⌝ }
+    requires { ⌜ Ruled rules × Seeking rules (now next) (now m) prices × Numbered (now m) (prices .n) (source .number) (source .node) × (stateIn (now m) .known (source .number) ≡ true) × (noteRoom ≤ length (now notes)) ⌝ }
+    ensures { λ t. ⌜ ((P : Plan) → Sought P rules (now (next .entry)) (now (m .entry)) prices → RelaxesLabel P prices (source .number) (source .label) (now (m .entry)) (now (m .exit)) t) ⌝ }
     ensures { λ _. ⌜ NotesFree (now (notes .entry)) (now (notes .exit)) ⌝ }
 {
+    let node = source.node;
+    let label = source.label;
     let to = plan::next_state(next, node.state, label);
     if to == 0 {
         return Tried {
@@ -156,13 +163,14 @@ fn relax_label(
     let done = noted.done;
     let cells = done.cells;
     let out = Outcomes {
+        number: source.number,
         label,
         count: noted.count,
         cells,
         state: to - 1,
         kept: done.gain as u32,
     };
-    relax_outcomes(prices, u, out, notes, m)
+    relax_outcomes(prices, out, notes, m)
 }
 
 // Tries the edges of the node numbered u, labels upward, if it waits.
@@ -188,7 +196,12 @@ fn relax_node(
     let labels = 1u8 << rules.count;
     let mut label = 0;
     while label < labels {
-        let tried = relax_label(prices, next, rules, u, node, label, notes, m);
+        let source = Source {
+            number: u,
+            node,
+            label,
+        };
+        let tried = relax_label(prices, next, rules, source, notes, m);
         if tried.steps != 0 {
             return tried;
         }

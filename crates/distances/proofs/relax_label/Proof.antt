@@ -15,26 +15,26 @@ use Rattle.distances.proofs.relax_label.Tie as tie
 
 next-state-requires : tie.Need-next-state-requires
 next-state-requires c κs =
-    let s = c .before .before in
+    let s = c .before .before .before in
     let a = s .args in
     let g = s .pre .1 in
-    numbered-low (g .plan) (tasksIn (a .rules)) (a .m .now) (a .prices .n) (g .sought .priced .holds) (g .sought .priced .planned .sound) (a .u) (a .node) (s .pre .2)
+    numbered-low (g .plan) (tasksIn (a .rules)) (a .m .now) (a .prices .n) (g .sought .priced .holds) (g .sought .priced .planned .sound) (a .source .number) (a .source .node) (s .pre .2)
 
 -- where the label leads
 leads : (c : tie.After-next-state) (P : Plan) →
-    let a = c .before .before .before .args in
-    Sought P (a .rules) (a .next .now) (a .m .now) (a .prices) → Leads P (a .rules) (a .next .now) (a .m .now) (a .prices .n) (a .u) (a .node) (a .label) (c .next-state .result)
-leads c P t = leads-of t (c .before .before .before .pre .2) (c .next-state .ensures)
+    let a = c .before .before .before .before .args in
+    Sought P (a .rules) (a .next .now) (a .m .now) (a .prices) → Leads P (a .rules) (a .next .now) (a .m .now) (a .prices .n) (a .source .number) (a .source .node) (a .source .label) (c .next-state .result)
+leads c P t = leads-of t (c .before .before .before .before .pre .2) (c .next-state .ensures)
 
 returns : tie.Need-returns
 returns c = (λ P t. label-none t (leads (c .before) P t) (c .if1 .taken), only-refl)
 
 reach-requires : tie.Need-reach-requires
 reach-requires c κs =
-    let s = c .before .before .before .before .before in
+    let s = c .before .before .before .before .before .before in
     let a = s .args in
     let g = s .pre .1 in
-    (s .pre .0, numbered-cells (g .plan) (tasksIn (a .rules)) (a .m .now) (a .prices .n) (g .sought .priced .holds) (a .u) (a .node) (s .pre .2), s .pre .4)
+    (s .pre .0, numbered-cells (g .plan) (tasksIn (a .rules)) (a .m .now) (a .prices .n) (g .sought .priced .holds) (a .source .number) (a .source .node) (s .pre .2), s .pre .4)
 
 sub-t17 : tie.Need-sub-t17
 sub-t17 c = search needs
@@ -44,17 +44,17 @@ cast-t18 c = search needs
 
 -- what is noted
 expanded : (c : tie.After-reach) (P : Plan) →
-    let a = c .before .before .before .before .before .before .args in
+    let a = c .before .before .before .before .before .before .before .args in
     Sought P (a .rules) (a .next .now) (a .m .now) (a .prices) →
-    Expanded P (a .rules) (a .next .now) (a .m .now) (a .prices .n) (a .u) (a .node) (a .label) (c .before .before .before .next-state .result) (a .notes .now) (c .reach .last .1 .1 .1 .0) (c .reach .result)
+    Expanded P (a .rules) (a .next .now) (a .m .now) (a .prices .n) (a .source .number) (a .source .node) (a .source .label) (c .before .before .before .next-state .result) (a .notes .now) (c .reach .last .1 .1 .1 .0) (c .reach .result)
 expanded c P t =
-    let s = c .before .before .before .before .before .before in
-    let low : s .args .node .taken < maskCount = omega (arith, s .good) in
+    let s = c .before .before .before .before .before .before .before in
+    let low : s .args .source .node .taken < maskCount = omega (arith, s .good) in
     record { leads = leads (c .before .before .before) P t; admitted = omega (arith, c .before .before .if1 .left); ruled = s .pre .0; low = low; reaches = c .reach .ensures }
 
 relax-outcomes-requires : tie.Need-relax-outcomes-requires
 relax-outcomes-requires c κs =
-    let s = c .before .before .before .before .before .before .before .before .before .before .before .before .before in
+    let s = c .before .before .before .before .before .before .before .before .before .before .before .before .before .before in
     let g = s .pre .1 in
     record { plan = g .plan; offers = label-offers (g .sought) (expanded (c .before .before .before .before .before .before .before) (g .plan) (g .sought)) (s .pre .3) }
 
@@ -66,7 +66,7 @@ same-length-2 c = search needs
 
 returns-2 : tie.Need-returns-2
 returns-2 c =
-    let s = c .before .before .before .before .before .before .before .before .before .before .before .before .before .before .before .before in (
+    let s = c .before .before .before .before .before .before .before .before .before .before .before .before .before .before .before .before .before in (
       λ P t.
           let e = expanded (c .before .before .before .before .before .before .before .before .before .before) P t in
           label-done t e (c .before .before .relax-outcomes .ensures P (label-offers t e (s .pre .3))),

@@ -104,12 +104,12 @@ relax-label-requires c κs =
 same-length-2 : tie.Need-same-length-2 Inv-loop μ-loop
 same-length-2 c =
     let call = c .before .before .before .before .before .before in
-    call .relax-label .kept .1 .1 .1 .1 .1 .1 .0 ∙ call .before .before .before .before .loop .inv .1
+    call .relax-label .kept .1 .1 .1 .1 .0 ∙ call .before .before .before .before .loop .inv .1
 
 same-length-3 : tie.Need-same-length-3 Inv-loop μ-loop
 same-length-3 c =
     let call = c .before .before .before .before .before .before in
-    call .relax-label .kept .1 .1 .1 .1 .1 .1 .1 .0 ∙ call .before .before .before .before .loop .inv .2
+    call .relax-label .kept .1 .1 .1 .1 .1 .0 ∙ call .before .before .before .before .loop .inv .2
 
 returns-2 : tie.Need-returns-2 Inv-loop μ-loop
 returns-2 c =
@@ -136,8 +136,8 @@ loop-again c =
     let call = c .before .before .before .before .before .before .before in
     let l = call .before .before .before .before .loop in (
       omega arith,
-      call .relax-label .kept .1 .1 .1 .1 .1 .1 .0 ∙ l .inv .1,
-      call .relax-label .kept .1 .1 .1 .1 .1 .1 .1 .0 ∙ l .inv .2,
+      call .relax-label .kept .1 .1 .1 .1 .0 ∙ l .inv .1,
+      call .relax-label .kept .1 .1 .1 .1 .1 .0 ∙ l .inv .2,
       λ P s.
           let b = l .inv .3 P s in
           below-more b (call .relax-label .ensures .0 P (sought-after (b .advance) refl s)) (c .before .if2 .left),

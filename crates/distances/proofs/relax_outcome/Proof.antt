@@ -66,8 +66,8 @@ sub-z c =
     (bound-fits (a .high) (a .prices .p * g)
     (charge-small (a .prices .p) g (omega (arith, o .fitsP)) (omega (arith, score (c .before), c .before .best-score .ok)))
     (subst (λ z. natAbs z ≤ maxHigh) (sym (s .pre .2))
-    (high-small (stateIn (a .m .now) .dist (a .u)) (a .prices .q * a .out .kept) (charge-small (a .prices .q) (a .out .kept) (o .fitsQ) (omega (arith, s .good)))
-    (distance-small (s .pre .0 .plan) (a .prices) (a .m .now) (o .search) (o .within) (o .few) (a .u) (o .from) (o .known)))))
+    (high-small (stateIn (a .m .now) .dist (a .out .number)) (a .prices .q * a .out .kept) (charge-small (a .prices .q) (a .out .kept) (o .fitsQ) (omega (arith, s .good)))
+    (distance-small (s .pre .0 .plan) (a .prices) (a .m .now) (o .search) (o .within) (o .few) (a .out .number) (o .from) (o .known)))))
 
 row-of-requires : tie.Need-row-of-requires
 row-of-requires c κs = search needs
@@ -91,12 +91,12 @@ number c =
 -- and what is computed its distance
 at : (c : tie.After-times) →
     let a = c .before .before .before .before .before .args in
-    toZ w64 (ofZ w64 (toZ w64 (ofZ w64 (a .high)) -ℤ toZ w64 (ofZ w64 (c .times .result)))) ≡ distanceBy (a .prices) (a .m .now) (a .notes .now) (a .u) (a .out) (a .k)
+    toZ w64 (ofZ w64 (toZ w64 (ofZ w64 (a .high)) -ℤ toZ w64 (ofZ w64 (c .times .result)))) ≡ distanceBy (a .prices) (a .m .now) (a .notes .now) (a .out) (a .k)
 at c =
     let s = c .before .before .before .before .before in
     let a = s .args in
     let charge = a .prices .p * gainIn (a .notes .now) (a .out .count) (patternIn (a .notes .now) (a .k)) in
-    toZ-ofZ {w = w64} (sub-z c) ∙ distance c ∙ ap (λ z. z -ℤ pos charge) (s .pre .2) ∙ weight-order (stateIn (a .m .now) .dist (a .u)) (a .prices .q * a .out .kept) charge
+    toZ-ofZ {w = w64} (sub-z c) ∙ distance c ∙ ap (λ z. z -ℤ pos charge) (s .pre .2) ∙ weight-order (stateIn (a .m .now) .dist (a .out .number)) (a .prices .q * a .out .kept) charge
 
 relax-requires : tie.Need-relax-requires
 relax-requires c κs =
@@ -112,7 +112,7 @@ returns c P o =
     let a = s .args in
     let v = number (c .before .before .before .before) in
     let z = at (c .before .before .before .before .before .before .before .before .before) in
-    subst₂ (λ (x : ℕ) y. Relaxes P (a .prices) (a .u) x y (a .m .now) (c .before .before .relax .last .0) (c .before .before .relax .result)) v z
+    subst₂ (λ (x : ℕ) y. Relaxes P (a .prices) (a .out .number) x y (a .m .now) (c .before .before .relax .last .0) (c .before .before .relax .result)) v z
     (c .before .before .relax .ensures P (a .prices) (offer-of o (a .k) (s .pre .1) v z))
 
 pub relax-outcome-spec : {M : Type 1} → statement M

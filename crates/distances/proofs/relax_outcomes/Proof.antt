@@ -19,11 +19,11 @@ use Rattle.distances.proofs.relax_outcomes.Statement.{statement}
 use Rattle.distances.proofs.relax_outcomes.Tie as tie
 
 abbrev Inv-loop : tie.InvT-loop
-Inv-loop prices u out notes m₀ high count moved₀ k₀ m moved k =
-    (k ≤ count) × (length m ≡ length m₀) × ((P : Plan) → Offers P prices m₀ notes u out → Trying P prices u out notes m₀ m moved k)
+Inv-loop prices out notes m₀ high count moved₀ k₀ m moved k =
+    (k ≤ count) × (length m ≡ length m₀) × ((P : Plan) → Offers P prices m₀ notes out → Trying P prices out notes m₀ m moved k)
 
 abbrev μ-loop : tie.MeasureT-loop
-μ-loop prices u out notes m₀ high count moved₀ k₀ m moved k = count - k
+μ-loop prices out notes m₀ high count moved₀ k₀ m moved k = count - k
 
 link-to-requires : tie.Need-link-to-requires Inv-loop μ-loop
 link-to-requires c κs = let o = c .before .before .before .pre .offers in (omega (arith, o .from, o .few), o .room)
@@ -34,7 +34,7 @@ times-requires c κs = c .before .before .before .before .pre .offers .fitsQ
 -- the distance with the policy's weight, before it is stored
 sum : (c : tie.After-struct-told Inv-loop μ-loop) →
     let a = c .before .before .before .before .before .before .before .args in
-    toZ w64 (ofZ w64 (c .before .before .before .link-to .result .distance)) +ℤ toZ w64 (ofZ w64 (c .before .before .times .result)) ≡ highOf (a .prices) (a .m .now) (a .u) (a .out)
+    toZ w64 (ofZ w64 (c .before .before .before .link-to .result .distance)) +ℤ toZ w64 (ofZ w64 (c .before .before .times .result)) ≡ highOf (a .prices) (a .m .now) (a .out)
 sum c =
     ap₂ (λ y z. y +ℤ z)
     (toZ-ofZ {w = w64} (record { sfits = c .struct-told .given .0 .1 }) ∙ ap (λ l. l .distance) (c .before .before .before .link-to .ensures))
@@ -46,8 +46,8 @@ add-high c =
     let a = s .args in
     let o = s .pre .offers in
     subst (SFits w64) (sym (sum c))
-    (high-fits (stateIn (a .m .now) .dist (a .u)) (a .prices .q * a .out .kept) (charge-small (a .prices .q) (a .out .kept) (o .fitsQ) (omega (arith, s .good)))
-    (distance-small (s .pre .plan) (a .prices) (a .m .now) (o .search) (o .within) (o .few) (a .u) (o .from) (o .known)))
+    (high-fits (stateIn (a .m .now) .dist (a .out .number)) (a .prices .q * a .out .kept) (charge-small (a .prices .q) (a .out .kept) (o .fitsQ) (omega (arith, s .good)))
+    (distance-small (s .pre .plan) (a .prices) (a .m .now) (o .search) (o .within) (o .few) (a .out .number) (o .from) (o .known)))
 
 loop-holds : tie.Need-loop-holds Inv-loop μ-loop
 loop-holds c = (omega arith, refl, λ P o. trying-start o)
@@ -63,7 +63,7 @@ relax-outcome-requires c κs =
     )
 
 same-length : tie.Need-same-length Inv-loop μ-loop
-same-length c = c .before .before .before .before .relax-outcome .kept .1 .1 .1 .1 .1 .1 .0 ∙ c .before .before .before .before .before .before .before .loop .inv .1
+same-length c = c .before .before .before .before .relax-outcome .kept .1 .1 .1 .1 .1 .0 ∙ c .before .before .before .before .before .before .before .loop .inv .1
 
 returns : tie.Need-returns Inv-loop μ-loop
 returns c P o =
@@ -82,7 +82,7 @@ loop-again c =
     let l = c .before .before .before .before .before .before .before .before in
     let r = c .before .before .before .before .before .relax-outcome in (
       omega arith,
-      r .kept .1 .1 .1 .1 .1 .1 .0 ∙ l .loop .inv .1,
+      r .kept .1 .1 .1 .1 .1 .0 ∙ l .loop .inv .1,
       λ P o. let s = l .loop .inv .2 P o in trying-next s (c .before .before .before .before .before .before .before .loop-test .taken) (r .ensures P (s .offers)) (c .before .if1 .left),
     )
 
