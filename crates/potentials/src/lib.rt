@@ -3,7 +3,7 @@ use node::Node;
 use policy::Rules;
 ghost use mathlib.Core.Path.{_≡_};
 ghost use mathlib.Core.Option.{some};
-ghost use Prim.Native.Nat.{_*_, _≤_};
+ghost use Prim.Native.Nat.{_*_, _<_, _≤_};
 ghost use lib.IntN.{pos};
 ghost use lib.ListN.{length};
 ghost use lib.Signed.{leZ};
@@ -17,6 +17,8 @@ ghost use Rattle.policy.specs.View.{tasksIn, Ruled};
 ghost use Rattle.graph.specs.Outcomes.{noteRoom, NotesFree};
 ghost use Rattle.graph.specs.Label.{orderIn};
 ghost use Rattle.graph.specs.View.{nodeOf};
+ghost use Rattle.store.specs.Store.{rowAt};
+ghost use Rattle.discovery.specs.Discovery.{nodeIn};
 ghost use Rattle.potentials.specs.Potentials.{Test, Testing, potentialOf, Findable, Numbered, patternOk, Charged};
 
 // The fraction of a certificate, and the number of nodes.
@@ -24,6 +26,26 @@ pub struct Claim {
     pub p: u32,
     pub q: u32,
     pub n: usize,
+}
+
+// What every edge is tested by: the claim, and the rules that the edges follow.
+struct Setting {
+    claim: Claim,
+    rules: Rules,
+}
+
+// Where edges leave: a node with its number, and their label.
+struct Source {
+    number: usize,
+    node: Node,
+    label: u8,
+}
+
+// Where a label leads: so many noted patterns, each with the policy's cells and the automaton's state.
+struct Outcomes {
+    count: usize,
+    cells: [u8; policy::CELLS],
+    state: u8,
 }
 
 // A gain at a price.
@@ -46,19 +68,12 @@ fn target_holds(n: usize, s: &[u8], m: &[u8], to: Node, bound: i64) -> bool
 
 // Whether the inequality holds on the noted outcomes: `high` is the potential of the edges' node with
 // the policy's weight.
-fn outcomes_hold(
-    claim: Claim,
-    s: &[u8],
-    notes: &[u8],
-    m: &[u8],
-    count: usize,
-    cells: [u8; policy::CELLS],
-    state: u8,
-    high: i64,
-) -> bool
-    requires { ⌜ Charged claim (now s) (now notes) (now m) count cells state high ⌝ }
-    ensures { λ b. ⌜ ((c : Certificate) → readCertificate (now (s .entry)) ≡ some c → b ≡ all (patternOk claim (c .potentials) (now (notes .entry)) count (now (m .entry)) cells state high) (orderIn (now (notes .entry)) count)) ⌝ }
+fn outcomes_hold(claim: Claim, s: &[u8], notes: &[u8], m: &[u8], out: Outcomes, high: i64) -> bool
+    requires { ⌜ Charged claim (now s) (now notes) (now m) (out .count) (out .cells) (out .state) high ⌝ }
+    ensures { λ b. ⌜ ((c : Certificate) → readCertificate (now (s .entry)) ≡ some c → b ≡ all (patternOk claim (c .potentials) (now (notes .entry)) (out .count) (now (m .entry)) (out .cells) (out .state) high) (orderIn (now (notes .entry)) (out .count))) ⌝ }
 {
+    let count = out.count;
+    let cells = out.cells;
     let mut k = 0;
     while k < count {
         let taken = graph::noted_pattern(notes, count, k);
@@ -68,7 +83,7 @@ fn outcomes_hold(
         let to = Node {
             cells,
             taken,
-            state,
+            state: out.state,
         };
         if !target_holds(claim.n, s, m, to, bound) {
             return false;
@@ -78,54 +93,66 @@ fn outcomes_hold(
     true
 }
 
-// Whether the inequality holds on the edges of a label from the node numbered u.
+// Whether the inequality holds on the edges of a label from a node.
 fn label_holds(
-    claim: Claim,
+    setting: Setting,
     next: &[u8; plan::PAIRS],
-    rules: Rules,
     s: &[u8],
-    u: usize,
-    node: Node,
-    label: u8,
+    from: Source,
     notes: &mut [u8],
     m: &[u8],
 ) -> bool
-    requires { ⌜ Ruled rules × Testing rules (now next) (now m) (now s) claim × Numbered (now m) (claim .n) u node × (noteRoom ≤ length (now notes)) ⌝ }
-    ensures { λ b. ⌜ ((P : Plan) (c : Certificate) → Test P c rules (now (next .entry)) (now (m .entry)) (now (s .entry)) claim → b ≡ all (edgeOk (nodes P) (claim .p) (claim .q) (c .potentials) u) (edgesAt P (nodeOf (tasksIn rules) node) label)) ⌝ }
+    requires { ⌜ Ruled (setting .rules) × Testing (setting .rules) (now next) (now m) (now s) (setting .claim) × Numbered (now m) (setting .claim .n) (from .number) (from .node) × (noteRoom ≤ length (now notes)) ⌝ }
+    ensures { λ b. ⌜ ((P : Plan) (c : Certificate) → Test P c (setting .rules) (now (next .entry)) (now (m .entry)) (now (s .entry)) (setting .claim) → b ≡ all (edgeOk (nodes P) (setting .claim .p) (setting .claim .q) (c .potentials) (from .number)) (edgesAt P (nodeOf (tasksIn (setting .rules)) (from .node)) (from .label))) ⌝ }
     ensures { λ _. ⌜ NotesFree (now (notes .entry)) (now (notes .exit)) ⌝ }
 {
-    let to = plan::next_state(next, node.state, label);
+    let claim = setting.claim;
+    let rules = setting.rules;
+    let node = from.node;
+    let to = plan::next_state(next, node.state, from.label);
     if to == 0 {
         return true;
     }
-    let noted = graph::reach(rules, node, label, notes);
+    let noted = graph::reach(rules, node, from.label, notes);
     let count = noted.count;
     let done = noted.done;
     let cells = done.cells;
     let weight = times(claim.q, done.gain as u32);
-    let high = certificate::potential(s, u) + weight;
-    outcomes_hold(claim, s, notes, m, count, cells, to - 1, high)
+    let high = certificate::potential(s, from.number) + weight;
+    let state = to - 1;
+    let out = Outcomes {
+        count,
+        cells,
+        state,
+    };
+    outcomes_hold(claim, s, notes, m, out, high)
 }
 
-// Whether the inequality holds on the edges from the node numbered u, labels upward.
+// Whether the inequality holds on the edges from the node in the row u, labels upward.
 fn node_holds(
-    claim: Claim,
+    setting: Setting,
     next: &[u8; plan::PAIRS],
-    rules: Rules,
     s: &[u8],
     u: usize,
-    node: Node,
     notes: &mut [u8],
     m: &[u8],
 ) -> bool
-    requires { ⌜ Ruled rules × Testing rules (now next) (now m) (now s) claim × Numbered (now m) (claim .n) u node × (noteRoom ≤ length (now notes)) ⌝ }
-    ensures { λ b. ⌜ ((P : Plan) (c : Certificate) → Test P c rules (now (next .entry)) (now (m .entry)) (now (s .entry)) claim → b ≡ all (edgeOk (nodes P) (claim .p) (claim .q) (c .potentials) u) (edges P (nodeOf (tasksIn rules) node))) ⌝ }
+    requires { ⌜ Ruled (setting .rules) × Testing (setting .rules) (now next) (now m) (now s) (setting .claim) × (u < setting .claim .n) × (noteRoom ≤ length (now notes)) ⌝ }
+    ensures { λ b. ⌜ ((P : Plan) (c : Certificate) → Test P c (setting .rules) (now (next .entry)) (now (m .entry)) (now (s .entry)) (setting .claim) → b ≡ all (edgeOk (nodes P) (setting .claim .p) (setting .claim .q) (c .potentials) u) (edges P (nodeOf (tasksIn (setting .rules)) (nodeIn (rowAt (now (m .entry)) u))))) ⌝ }
     ensures { λ _. ⌜ NotesFree (now (notes .entry)) (now (notes .exit)) ⌝ }
 {
+    let row = store::row(m, u);
+    let node = discovery::node_of(row);
+    let rules = setting.rules;
     let labels = 1u8 << rules.count;
     let mut label = 0;
     while label < labels {
-        if !label_holds(claim, next, rules, s, u, node, label, notes, m) {
+        let from = Source {
+            number: u,
+            node,
+            label,
+        };
+        if !label_holds(setting, next, s, from, notes, m) {
             return false;
         }
         label += 1;
@@ -146,13 +173,12 @@ pub fn edges_hold(
     ensures { λ b. ⌜ ((P : Plan) (c : Certificate) → Test P c rules (now (next .entry)) (now (m .entry)) (now (s .entry)) claim → b ≡ edgesOkFrom P (nodes P) (claim .p) (claim .q) (c .potentials) 0 (nodes P)) ⌝ }
     ensures { λ _. ⌜ NotesFree (now (notes .entry)) (now (notes .exit)) ⌝ }
 {
+    let setting = Setting { claim, rules };
     let n = claim.n;
     let mut number = 1;
     while number <= n {
         let u = number - 1;
-        let row = store::row(m, u);
-        let node = discovery::node_of(row);
-        if !node_holds(claim, next, rules, s, u, node, notes, m) {
+        if !node_holds(setting, next, s, u, notes, m) {
             return false;
         }
         number += 1;

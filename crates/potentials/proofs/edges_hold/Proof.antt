@@ -1,37 +1,29 @@
 -- `potentials::edges_hold` meets its contract: the nodes one after another. Assumes nothing.
 use mathlib.Core.Path.{_≡_, refl, sym, ap, subst, _∙_}
 use mathlib.Core.Bool.{true}
-use Prim.Native.Nat.{ℕ, _+_, _-_, _*_, _≤_}
+use Prim.Native.Nat.{ℕ, _+_, _-_, _≤_}
 use native.Mathlib.Omega.{arith}
 use lib.ListN.{length}
 use borrow.Author.Tests.{not-true, not-false}
 use Rattle.words.proofs.Free.{only-refl, only-trans}
 use Rattle.model.specs.Certificate.{Certificate}
-use Rattle.model.specs.Check.{edgeOk}
-use Rattle.model.specs.Graph.{edges, nodes}
 use Rattle.model.specs.Lists.{all, upFrom}
 use Rattle.model.specs.Plan.{Plan}
 use Rattle.model.proofs.All.{all-next, all-stops}
-use Rattle.words.proofs.Memory.{part-length}
-use Rattle.policy.specs.View.{tasksIn}
 use Rattle.graph.specs.Outcomes.{NotesFree}
-use Rattle.graph.specs.View.{nodeOf}
-use Rattle.node.specs.declared.Node.{Node}
-use Rattle.store.specs.Store.{rowBytes, rowAt}
-use Rattle.discovery.specs.Discovery.{nodeIn}
 use Rattle.potentials.specs.Potentials.{Test}
 use Rattle.potentials.proofs.Nodes.{rowOk, edges-rows}
 use Rattle.potentials.proofs.edges_hold.Statement.{statement}
 use Rattle.potentials.proofs.edges_hold.Tie as tie
 
 abbrev Inv-loop : tie.InvT-loop
-Inv-loop claim next rules s notes₀ m n number₀ notes number =
+Inv-loop next s notes₀ m setting n number₀ notes number =
     (1 ≤ number) × (number ≤ n + 1) × (length notes ≡ length notes₀)
-    × ((P : Plan) (d : Certificate) → Test P d rules next m s claim → all (rowOk P d claim rules m) (upFrom 0 (number - 1)) ≡ true)
+    × ((P : Plan) (d : Certificate) → Test P d (setting .rules) next m s (setting .claim) → all (rowOk P d (setting .claim) (setting .rules) m) (upFrom 0 (number - 1)) ≡ true)
     × NotesFree notes₀ notes
 
 abbrev μ-loop : tie.MeasureT-loop
-μ-loop claim next rules s notes₀ m n number₀ notes number = n + 1 - number
+μ-loop next s notes₀ m setting n number₀ notes number = n + 1 - number
 
 loop-holds : tie.Need-loop-holds Inv-loop μ-loop
 loop-holds c = (omega arith, omega arith, refl, λ P d t. refl, only-refl)
@@ -39,61 +31,32 @@ loop-holds c = (omega arith, omega arith, refl, λ P d t. refl, only-refl)
 sub-u : tie.Need-sub-u Inv-loop μ-loop
 sub-u c = omega (arith, c .before .loop .inv .0)
 
-row-requires : tie.Need-row-requires Inv-loop μ-loop
-row-requires c κs =
-    let index = c .before .before .before .before .before .pre .1 .test .holds .rows .index in
-    (omega (arith, index .few, c .before .loop .inv .0), index .room)
-
-node-of-requires : tie.Need-node-of-requires Inv-loop μ-loop
-node-of-requires c κs =
-    let start = c .before .before .before .before .before .before in
-    let l = c .before .before .loop in
-    let index = start .pre .1 .test .holds .rows .index in
-    ap length (c .row .ensures)
-    ∙ part-length (start .args .m .now) (rowBytes * (l .number - 1)) rowBytes (omega (arith, index .few, index .room, l .inv .0))
-
--- the node that is read
-named : (c : tie.After-node-of Inv-loop μ-loop) →
-    c .node-of .result ≡ nodeIn (rowAt (c .before .before .before .before .before .before .before .args .m .now) (c .before .before .before .loop .number - 1))
-named c = c .node-of .ensures ∙ ap nodeIn (c .before .row .ensures)
-
 node-holds-requires : tie.Need-node-holds-requires Inv-loop μ-loop
 node-holds-requires c κs =
-    let start = c .before .before .before .before .before .before .before .before in
-    let l = c .before .before .before .before .loop in
-    (start .pre .0, start .pre .1, record { below = omega (arith, l .inv .0); row = named (c .before) }, omega (arith, l .inv .2, start .pre .2))
+    let start = c .before .before .before .before .before .before in
+    let l = c .before .before .loop in
+    (start .pre .0, start .pre .1, omega (arith, l .inv .0), omega (arith, l .inv .2, start .pre .2))
 
 same-length : tie.Need-same-length Inv-loop μ-loop
 same-length c =
     let call = c .before .before .before in
-    call .node-holds .kept .1 .1 .1 .1 .1 .1 .0 ∙ call .before .before .before .before .before .loop .inv .2
-
--- what one turn tests
-turn : (c : tie.After-node-holds Inv-loop μ-loop) (P : Plan) (d : Certificate) →
-    let a = c .before .before .before .before .before .before .before .before .before .args in
-    Test P d (a .rules) (a .next .now) (a .m .now) (a .s .now) (a .claim) →
-    c .node-holds .result ≡ rowOk P d (a .claim) (a .rules) (a .m .now) (c .before .before .before .before .before .loop .number - 1)
-turn c P d t =
-    let a = c .before .before .before .before .before .before .before .before .before .args in
-    let u = c .before .before .before .before .before .loop .number - 1 in
-    c .node-holds .ensures .0 P d t
-    ∙ ap (λ (v : Node). all (edgeOk (nodes P) (a .claim .p) (a .claim .q) (d .potentials) u) (edges P (nodeOf (tasksIn (a .rules)) v))) (named (c .before .before))
+    call .node-holds .kept .1 .1 .1 .1 .0 ∙ call .before .before .before .loop .inv .2
 
 returns : tie.Need-returns Inv-loop μ-loop
 returns c =
     let call = c .before .before .before in
-    let l = call .before .before .before .before .before .loop in
-    let a = call .before .before .before .before .before .before .before .before .before .args in (
+    let l = call .before .before .before .loop in
+    let a = call .before .before .before .before .before .before .before .args in (
       λ P d t.
           sym (edges-rows P d (a .rules) (a .next .now) (a .m .now) (a .s .now) (a .claim) t
           ∙ all-stops (rowOk P d (a .claim) (a .rules) (a .m .now)) (l .number - 1) (a .claim .n) (omega (arith, l .inv .0))
-          (sym (turn call P d t) ∙ not-true (call .node-holds .result) (c .if1 .taken))),
+          (sym (call .node-holds .ensures .0 P d t) ∙ not-true (call .node-holds .result) (c .if1 .taken))),
       only-trans (l .inv .4) (call .node-holds .ensures .1),
     )
 
 add-number : tie.Need-add-number Inv-loop μ-loop
 add-number c =
-    let start = c .before .before .before .before .before .before .before .before .before .before .before .before in
+    let start = c .before .before .before .before .before .before .before .before .before .before in
     record { fits = omega (arith, start .pre .1 .test .holds .rows .index .few) }
 
 loop-less : tie.Need-loop-less Inv-loop μ-loop
@@ -102,16 +65,16 @@ loop-less c = omega arith
 loop-again : tie.Need-loop-again Inv-loop μ-loop
 loop-again c =
     let call = c .before .before .before in
-    let l = call .before .before .before .before .before .loop in
-    let a = call .before .before .before .before .before .before .before .before .before .args in
+    let l = call .before .before .before .loop in
+    let a = call .before .before .before .before .before .before .before .args in
     let more : l .number - 1 + 1 ≡ l .number + 1 - 1 = omega (arith, l .inv .0) in (
       omega arith,
       omega arith,
-      call .node-holds .kept .1 .1 .1 .1 .1 .1 .0 ∙ l .inv .2,
+      call .node-holds .kept .1 .1 .1 .1 .0 ∙ l .inv .2,
       λ P d t.
           subst (λ (n : ℕ). all (rowOk P d (a .claim) (a .rules) (a .m .now)) (upFrom 0 n) ≡ true) more
           (all-next (rowOk P d (a .claim) (a .rules) (a .m .now)) (l .number - 1) (l .inv .3 P d t)
-          (sym (turn call P d t) ∙ not-false (call .node-holds .result) (c .if1 .left))),
+          (sym (call .node-holds .ensures .0 P d t) ∙ not-false (call .node-holds .result) (c .if1 .left))),
       only-trans (l .inv .4) (call .node-holds .ensures .1),
     )
 
@@ -138,8 +101,6 @@ edges-hold-spec =
     μ-loop
     loop-holds
     sub-u
-    row-requires
-    node-of-requires
     node-holds-requires
     same-length
     returns

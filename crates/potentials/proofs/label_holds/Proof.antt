@@ -22,29 +22,29 @@ use Rattle.potentials.proofs.label_holds.Tie as tie
 
 next-state-requires : tie.Need-next-state-requires
 next-state-requires c κs =
-    let start = c .before .before .before in
+    let start = c .before .before .before .before .before .before in
     let a = start .args in
     let g = start .pre .1 in
-    numbered-low (g .plan) (tasksIn (a .rules)) (a .m .now) (a .claim .n) (g .test .holds) (g .test .planned .sound) (a .u) (a .node) (start .pre .2)
+    numbered-low (g .plan) (tasksIn (a .setting .rules)) (a .m .now) (a .setting .claim .n) (g .test .holds) (g .test .planned .sound) (a .from .number) (a .from .node) (start .pre .2)
 
 returns : tie.Need-returns
 returns c =
-    let start = c .before .before .before .before .before in
+    let start = c .before .before .before .before .before .before .before .before in
     let a = start .args in
     let read = c .before .next-state in (
       λ P d t.
-          label-not P d (a .rules) (a .next .now) (a .m .now) (a .s .now) (a .claim) t (a .u) (a .node) (start .pre .2)
-          (a .label) (read .result) (read .ensures) (c .if1 .taken),
+          label-not P d (a .setting .rules) (a .next .now) (a .m .now) (a .s .now) (a .setting .claim) t (a .from .number) (a .from .node) (start .pre .2)
+          (a .from .label) (read .result) (read .ensures) (c .if1 .taken),
       only-refl,
     )
 
 reach-requires : tie.Need-reach-requires
 reach-requires c κs =
-    let start = c .before .before .before .before .before .before in
+    let start = c .before .before .before .before .before .before .before .before .before in
     let a = start .args in
     let g = start .pre .1 in (
       start .pre .0,
-      numbered-cells (g .plan) (tasksIn (a .rules)) (a .m .now) (a .claim .n) (g .test .holds) (a .u) (a .node) (start .pre .2),
+      numbered-cells (g .plan) (tasksIn (a .setting .rules)) (a .m .now) (a .setting .claim .n) (g .test .holds) (a .from .number) (a .from .node) (start .pre .2),
       start .pre .3,
     )
 
@@ -59,20 +59,20 @@ potential-requires c κs = search needs
 
 -- the policy's weight is small
 small : (c : tie.After-potential) →
-    let a = c .before .before .before .before .before .before .before .before .before .before .before .before .before .before .args in
-    a .claim .q * c .before .before .before .before .before .before .before .reach .result .done .gain ≤ maxCharge
+    let a = c .before .before .before .before .before .before .before .before .before .before .before .before .before .before .before .before .before .args in
+    a .setting .claim .q * c .before .before .before .before .before .before .before .reach .result .done .gain ≤ maxCharge
 small c =
-    let start = c .before .before .before .before .before .before .before .before .before .before .before .before .before .before in
+    let start = c .before .before .before .before .before .before .before .before .before .before .before .before .before .before .before .before .before in
     let gain = c .before .before .before .before .before .before .before .reach .result .done .gain in
     let byte : gain < 2 ^ 32 = omega (arith, c .before .before .struct-known .given) in
-    charge-small (start .args .claim .q) gain (start .pre .1 .test .fitsQ) byte
+    charge-small (start .args .setting .claim .q) gain (start .pre .1 .test .fitsQ) byte
 
 -- the potential with it, before it is stored
 sum : (c : tie.After-potential) (d : Certificate) →
-    let a = c .before .before .before .before .before .before .before .before .before .before .before .before .before .before .args in
+    let a = c .before .before .before .before .before .before .before .before .before .before .before .before .before .before .before .before .before .args in
     readCertificate (a .s .now) ≡ some d →
     toZ w64 (ofZ w64 (c .potential .result)) +ℤ toZ w64 (ofZ w64 (c .before .times .result))
-    ≡ potentialAt (d .potentials) (a .u) +ℤ pos (a .claim .q * c .before .before .before .before .before .before .before .reach .result .done .gain)
+    ≡ potentialAt (d .potentials) (a .from .number) +ℤ pos (a .setting .claim .q * c .before .before .before .before .before .before .before .reach .result .done .gain)
 sum c d e =
     ap₂ (λ y z. y +ℤ z)
     (toZ-ofZ {w = w64} (record { sfits = c .potential .ok }) ∙ c .potential .ensures d e)
@@ -80,34 +80,34 @@ sum c d e =
 
 add-high : tie.Need-add-high
 add-high c =
-    let start = c .before .before .before .before .before .before .before .before .before .before .before .before .before .before in
+    let start = c .before .before .before .before .before .before .before .before .before .before .before .before .before .before .before .before .before in
     let a = start .args in
     let g = start .pre .1 in
     subst (SFits w64) (sym (sum c (g .certificate) (g .test .read)))
-    (high-fits (potentialAt (g .certificate .potentials) (a .u)) (a .claim .q * c .before .before .before .before .before .before .before .reach .result .done .gain) (small c)
-    (potential-small (g .plan) (g .certificate) (a .rules) (a .next .now) (a .m .now) (a .s .now) (a .claim) (g .test) (a .u) (a .node) (start .pre .2)))
+    (high-fits (potentialAt (g .certificate .potentials) (a .from .number)) (a .setting .claim .q * c .before .before .before .before .before .before .before .reach .result .done .gain) (small c)
+    (potential-small (g .plan) (g .certificate) (a .setting .rules) (a .next .now) (a .m .now) (a .s .now) (a .setting .claim) (g .test) (a .from .number) (a .from .node) (start .pre .2)))
 
-sub-outcomes-hold : tie.Need-sub-outcomes-hold
-sub-outcomes-hold c = search needs
+sub-state : tie.Need-sub-state
+sub-state c = search needs
 
 -- and after
 high : (c : tie.After-potential) (d : Certificate) →
-    let a = c .before .before .before .before .before .before .before .before .before .before .before .before .before .before .args in
+    let a = c .before .before .before .before .before .before .before .before .before .before .before .before .before .before .before .before .before .args in
     readCertificate (a .s .now) ≡ some d →
     toZ w64 (ofZ w64 (toZ w64 (ofZ w64 (c .potential .result)) +ℤ toZ w64 (ofZ w64 (c .before .times .result))))
-    ≡ potentialAt (d .potentials) (a .u) +ℤ pos (a .claim .q * c .before .before .before .before .before .before .before .reach .result .done .gain)
+    ≡ potentialAt (d .potentials) (a .from .number) +ℤ pos (a .setting .claim .q * c .before .before .before .before .before .before .before .reach .result .done .gain)
 high c d e = toZ-ofZ {w = w64} (add-high c) ∙ sum c d e
 
 outcomes-hold-requires : tie.Need-outcomes-hold-requires
 outcomes-hold-requires c κs =
     let call = c .before .before .before .before .before .before .before .before in
     let read = call .before .before .before in
-    let start = read .before .before .before .before in
+    let start = read .before .before .before .before .before .before .before in
     let a = start .args in
     let g = start .pre .1 in
-    let low : a .node .taken < maskCount = omega (arith, start .good) in
-    label-charged (g .plan) (g .certificate) (a .rules) (a .next .now) (a .m .now) (a .s .now) (a .claim) (g .test) (a .u) (a .node) (start .pre .2)
-    (a .label) (read .next-state .result) (read .next-state .ensures) (omega (arith, call .before .before .if1 .left)) (start .pre .0) low
+    let low : a .from .node .taken < maskCount = omega (arith, start .good) in
+    label-charged (g .plan) (g .certificate) (a .setting .rules) (a .next .now) (a .m .now) (a .s .now) (a .setting .claim) (g .test) (a .from .number) (a .from .node) (start .pre .2)
+    (a .from .label) (read .next-state .result) (read .next-state .ensures) (omega (arith, call .before .before .if1 .left)) (start .pre .0) low
     (a .notes .now) (call .reach .last .1 .1 .1 .0) (call .reach .result) (call .reach .ensures) _ (high (c .before) (g .certificate) (g .test .read)) (small (c .before))
 
 same-length : tie.Need-same-length
@@ -117,13 +117,13 @@ returns-2 : tie.Need-returns-2
 returns-2 c =
     let call = c .before .before .before .before .before .before .before .before .before in
     let read = call .before .before .before in
-    let start = read .before .before .before .before in
+    let start = read .before .before .before .before .before .before .before in
     let a = start .args in
-    let low : a .node .taken < maskCount = omega (arith, start .good) in (
+    let low : a .from .node .taken < maskCount = omega (arith, start .good) in (
       λ P d t.
           c .outcomes-hold .ensures d (t .read)
-          ∙ label-tested P d (a .rules) (a .next .now) (a .m .now) (a .s .now) (a .claim) t (a .u) (a .node) (start .pre .2)
-          (a .label) (read .next-state .result) (read .next-state .ensures) (omega (arith, call .before .before .if1 .left)) (start .pre .0) low
+          ∙ label-tested P d (a .setting .rules) (a .next .now) (a .m .now) (a .s .now) (a .setting .claim) t (a .from .number) (a .from .node) (start .pre .2)
+          (a .from .label) (read .next-state .result) (read .next-state .ensures) (omega (arith, call .before .before .if1 .left)) (start .pre .0) low
           (a .notes .now) (call .reach .last .1 .1 .1 .0) (call .reach .result) (call .reach .ensures) _ (high (c .before .before) d (t .read)),
       call .reach .ensures .only,
     )
@@ -139,7 +139,7 @@ label-holds-spec =
     times-requires
     potential-requires
     add-high
-    sub-outcomes-hold
+    sub-state
     outcomes-hold-requires
     same-length
     returns-2)
