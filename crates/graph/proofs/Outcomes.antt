@@ -1,7 +1,7 @@
 -- Laws of what is noted of a label's choices: every choice's pattern with at least its gain, nothing but choices, and the patterns in
 -- the order of their first occurrence.
 -- Assumes nothing.
-use mathlib.Core.Path.{_≡_, refl, sym, _∙_, ap, ap₂, subst}
+use mathlib.Core.Path.{_≡_, refl, sym, _∙_, ap, ap₂}
 use mathlib.Core.Logic.{_↔_, _⊎_, inl, inr, ⊎-elim}
 use mathlib.Core.Bool.{Bool, true, false, cond, _||_, false≢true, or-comm, or-assoc, or-true}
 use mathlib.Core.List.{List, [], _∷_, _++_, map, map-map, foldl, List·Memᴰ, List·Memᴰ·head, List·Memᴰ·tail, List·Memᴰ·not-nil, List·Memᴰ·cases-cons, Memᴰ·map, Memᴰ·of-map}
@@ -20,7 +20,6 @@ use Rattle.model.specs.Limits.{maxWindow}
 use Rattle.model.specs.Masks.{maskCount}
 use Rattle.policy.specs.View.{Tasks, TasksInRange}
 use Rattle.policy.proofs.Cells.{window-low}
-use Rattle.theory.proofs.Distinct.{Distinct, distinct-snoc}
 use Rattle.theory.proofs.Edges.{mem-choices}
 use Rattle.graph.specs.Outcomes.{patternCount, Outcome, outcomeOf, outcomes, Best, Notes, notNoted, note, notedOf, nothingNoted}
 use Rattle.graph.proofs.Notes.{bestOf, note-less, note-better, note-first}
@@ -178,15 +177,6 @@ isIn-mem p (x ∷ l) = (
     to rest true e h = List·Memᴰ·head (eqb-true p x e)
     to rest false e h = List·Memᴰ·tail (rest h)
 
--- without repeats
-pub firsts-distinct : (l ps : List ℕ) → Distinct l → Distinct (foldl addFirst l ps)
-firsts-distinct l [] d = d
-firsts-distinct l (p ∷ ps) d = firsts-distinct (addFirst l p) ps (by (isIn p l) refl)
-  where
-    by : (b : Bool) → isIn p l ≡ b → Distinct (cond b l (l ++ (p ∷ [])))
-    by true e = d
-    by false e = distinct-snoc l p d (λ m. false≢true (sym e ∙ isIn-mem p l .1 m))
-
 -- a pattern is in the order just where it has a score
 abbrev Agrees : Notes → Type 0
 Agrees n = (q : ℕ) → q < length (n .best) → isIn q (n .order) ≡ ltb 0 (scoreAt n q)
@@ -308,7 +298,3 @@ module _ (ts : Tasks) (range : TasksInRange ts) (l taken : ℕ) (low : taken < m
   noted-order =
       fold-order patternCount (outcomes ts l taken) nothingNoted nothing-size below nothing-agrees
       ∙ ap₂ (foldl addFirst) no-order (map-map (λ (o : Outcome). o .pattern) (outcomeOf ts taken) (choices ts l taken))
-
-  pub order-distinct : Distinct (notes .order)
-  unfolding firsts
-  order-distinct = subst Distinct (sym noted-order) (firsts-distinct [] (map patternOf (choices ts l taken)) tt)

@@ -10,7 +10,7 @@ use native.Mathlib.Omega.{arith}
 use lib.Dec.{eqb, ltb}
 use lib.ListN.{length, getD, take, drop, length-append, List·getD-append}
 use lib.Pow.{pow-mono, suc-ones}
-use lib.Seq.{drop-append-seam, take-append-le, take-at, getD-drop, getD-take}
+use lib.Seq.{drop-append-seam, take-append-le, getD-drop}
 use borrow.Author.Tests.{eqb-true, eq-eqb, ne-eqb}
 use Rattle.model.specs.Limits.{maxWindow}
 use Rattle.model.specs.Lists.{keep, flatMap, upFrom, ones}
@@ -73,12 +73,6 @@ drop-groups : (c : ℕ) → c ≤ maxWindow → drop (groupStart c) maskTable �
 unfolding groupStart
 drop-groups c h = ap (drop (groupStart c)) (table-split c h) ∙ drop-append-seam (groupsBelow c) (group c ++ groupsAfter c)
 
--- the group of c ones stands from its start to the next one's
-pub group-at-start : (c : ℕ) → c ≤ maxWindow → take (groupStart (suc c) - groupStart c) (drop (groupStart c) maskTable) ≡ group c
-group-at-start c h =
-    ap (take (groupStart (suc c) - groupStart c)) (drop-groups c h)
-    ∙ take-at (group c) (groupsAfter c) (groupStart (suc c) - groupStart c) (omega (arith, groupStart-suc c))
-
 pub getD-group : (c k : ℕ) → c ≤ maxWindow → k < length (group c) → getD maskTable (groupStart c + k) 0 ≡ getD (group c) k 0
 getD-group c k h h′ =
     sym (getD-drop (groupStart c) maskTable k 0) ∙ ap (λ l. getD l k 0) (drop-groups c h)
@@ -129,12 +123,6 @@ module _ (c : ℕ) (h : c ≤ maxWindow) where
       ap (take (length (groupBelow D c))) (drop-groups c h)
       ∙ take-append-le (length (groupBelow D c)) (group c) (groupsAfter c) (length-keep-le (λ m. ltb m (2 ^ D)) (group c))
       ∙ rising-prefix (2 ^ D) 0 (group c) (rising-group c)
-
-  pub getD-group-below : (D k : ℕ) → k < length (groupBelow D c) → getD maskTable (groupStart c + k) 0 ≡ getD (groupBelow D c) k 0
-  getD-group-below D k h₁ =
-      sym (getD-drop (groupStart c) maskTable k 0)
-      ∙ sym (getD-take (length (groupBelow D c)) (drop (groupStart c) maskTable) k 0 h₁)
-      ∙ ap (λ l. getD l k 0) (group-below D)
 
   pub group-below-le : (D : ℕ) → groupStart c + length (groupBelow D c) ≤ groupStart (suc c)
   group-below-le D = omega (arith, groupStart-suc c, length-keep-le (λ m. ltb m (2 ^ D)) (group c))

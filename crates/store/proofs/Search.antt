@@ -1,10 +1,10 @@
 -- Laws of a search among rows. Assumes nothing.
-use mathlib.Core.Path.{_≡_, refl, sym, ap, _∙_}
+use mathlib.Core.Path.{_≡_, refl, sym, _∙_}
 use mathlib.Core.Bool.{Bool, true, false, cond, false≢true}
 use mathlib.Core.Logic.{_↔_}
 use mathlib.Core.List.{List, [], _∷_, _++_}
 use Prim.Native.Nat.{ℕ, zero, suc, _+_, _≤_, _<_}
-use native.Mathlib.Nat.{zero-add, suc-add, not-suc-le-zero, le-of-suc-le-suc}
+use native.Mathlib.Nat.{not-suc-le-zero, le-of-suc-le-suc}
 use native.Mathlib.Decide.{decLt}
 use native.Mathlib.Omega.{arith}
 use lib.ListN.{length, getD, length-append, List·getD-append}
@@ -73,31 +73,6 @@ index-at {rows} {row} i distinct below e = go (decLt i (indexIn rows row))
     go (no h) =
         let k : indexIn rows row < length rows = omega arith in
         distinct .apart (indexIn rows row) i k below (index-found rows row k ∙ sym e)
-
--- a row found among the first rows is found there
-pub index-left : (rows rest : List (List ℕ)) (row : List ℕ) → indexIn rows row < length rows → indexIn (rows ++ rest) row ≡ indexIn rows row
-unfolding indexIn
-index-left [] rest row h = absurd (not-suc-le-zero h)
-index-left (r ∷ rows) rest row h = go (sameNumbers r row) (index-left rows rest row) h
-  where
-    go : (b : Bool) → (indexIn rows row < length rows → indexIn (rows ++ rest) row ≡ indexIn rows row)
-        → cond b 0 (suc (indexIn rows row)) < suc (length rows)
-        → cond b 0 (suc (indexIn (rows ++ rest) row)) ≡ cond b 0 (suc (indexIn rows row))
-    go true later k = refl
-    go false later k = ap suc (later (le-of-suc-le-suc k))
-
--- one that is not among them is looked for in the rest
-pub index-right : (rows rest : List (List ℕ)) (row : List ℕ) → indexIn rows row ≡ length rows
-    → indexIn (rows ++ rest) row ≡ length rows + indexIn rest row
-unfolding indexIn
-index-right [] rest row h = sym (zero-add (indexIn rest row))
-index-right (r ∷ rows) rest row h = go (sameNumbers r row) (index-right rows rest row) h
-  where
-    go : (b : Bool) → (indexIn rows row ≡ length rows → indexIn (rows ++ rest) row ≡ length rows + indexIn rest row)
-        → cond b 0 (suc (indexIn rows row)) ≡ suc (length rows)
-        → cond b 0 (suc (indexIn (rows ++ rest) row)) ≡ suc (length rows) + indexIn rest row
-    go true later k = absurd (omega arith)
-    go false later k = rw suc-add (ap suc (later (omega arith)))
 
 -- distinct rows and one that is not among them
 pub distinct-snoc : (rows : List (List ℕ)) (row : List ℕ) → Distinct rows → indexIn rows row ≡ length rows → Distinct (rows ++ (row ∷ []))

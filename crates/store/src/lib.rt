@@ -5,7 +5,7 @@ ghost use Prim.Native.Nat.{_+_, _*_, _^_, _≤_, _<_};
 ghost use lib.ListN.{length};
 ghost use Rattle.model.specs.Bytes.{bytes, overwrite};
 ghost use Rattle.model.specs.Lists.{sameNumbers};
-ghost use Rattle.store.specs.Store.{rowBytes, maxRows, hashes, storeBytes, rowAt, rowsIn, indexIn, Distinct, hashOf, entryAt, Indexed, Cleared, Appended, Kept};
+ghost use Rattle.store.specs.Store.{rowBytes, maxRows, hashes, storeBytes, rowAt, rowsIn, indexIn, Distinct, hashStep, hashOf, entryAt, Indexed, Cleared, Appended, Kept};
 
 // The bytes of a row, a node's cells, its pattern and its state; the most rows, and the number of hashes.
 pub const ROW_BYTES: usize = Node::CELLS + 2;
@@ -43,17 +43,18 @@ fn hash(row: &[u8; ROW_BYTES]) -> usize
     let mut h = 0;
     let mut i = 0;
     while i < ROW_BYTES {
-        h = (h * 31 + wide8(row[i])) % HASHES;
+        h = hash_step(h, row[i]);
         i += 1;
     }
     h
 }
 
-// x, at a wider type.
-fn wide8(x: u8) -> usize
-    ensures { λ r. ⌜ (r ≡ x) × (r < 256) ⌝ }
+// The hash of some bytes and one more.
+fn hash_step(h: usize, b: u8) -> usize
+    requires { ⌜ h < hashes ⌝ }
+    ensures { λ r. ⌜ (r ≡ hashStep h b) × (r < hashes) ⌝ }
 {
-    x as usize
+    (h * 31 + b as usize) % HASHES
 }
 
 // The j-th row.

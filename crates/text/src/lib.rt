@@ -59,15 +59,15 @@ pub fn put_three_fields(out: &mut [u8], at: usize, x: u64, y: u64, z: u64) -> us
 pub fn put_trace_line(
     out: &mut [u8],
     at: usize,
-    slot: u64,
-    label: u64,
-    ran: u64,
-    gain: u64,
+    slot: usize,
+    label: u8,
+    ran: u8,
+    gain: u16,
 ) -> usize
     requires { ⌜ at + length (traceLine slot label ran gain) ≤ length (now out) ⌝ }
     ensures { λ r. ⌜ Put (now (out .entry)) (now (out .exit)) at (traceLine slot label ran gain) r ⌝ }
 {
-    let a = put_three_fields(out, at, slot, label, ran);
-    let b = put_number(out, a, gain);
+    let a = put_three_fields(out, at, slot as u64, label as u64, ran as u64);
+    let b = put_number(out, a, gain as u64);
     put_bytes(out, b, b"\n")
 }

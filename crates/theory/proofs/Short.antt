@@ -10,11 +10,11 @@ use lib.IntN.{pos}
 use lib.ListN.{length, length-map}
 use lib.Signed.{_≤ℤ_, ≤ℤ-refl}
 use Rattle.model.specs.Plan.{Plan}
-use Rattle.model.specs.Graph.{Node, Edge, start, edges, among}
+use Rattle.model.specs.Graph.{Node, Edge, edges, among}
 use Rattle.model.specs.Walk.{Walk, here, go}
 use Rattle.model.specs.Check.{weight}
-use Rattle.model.specs.Solve.{cost, Smallest}
-use Rattle.words.proofs.Signed.{≤ℤ-trans, +ℤ-mono}
+use Rattle.model.specs.Solve.{cost}
+use Rattle.words.proofs.Signed.{+ℤ-mono}
 use Rattle.theory.proofs.Integers.{cheaper}
 use Rattle.theory.proofs.Distinct.{Distinct, distinct-le}
 use Rattle.theory.proofs.Nodes.{among-mem, Closed}
@@ -116,11 +116,3 @@ module _ (p q : ℕ) {P : Plan} {ns : List Node} (closed : Closed P ns) (no-loss
   simple-short {u} m s =
       let few = distinct-le (passed u (s .path)) ns (s .apart) (passed-inside closed m (s .walk)) in
       omega (arith, few, length-map (s .path) (λ e. e .to))
-
-  -- so a cost that is attained, and smallest of the walks with so few edges, is smallest of all
-  pub short-smallest : List·Memᴰ start ns → {v : Node} {es : List Edge} → Walk P start v es →
-      ((fs : List Edge) → Walk P start v fs → length fs < length ns → cost p q es ≤ℤ cost p q fs) → Smallest P p q v (cost p q es)
-  short-smallest m {es = es} w h = record {
-    reached = (es, w, refl);
-    least = λ fs k. let s = simple m k in ≤ℤ-trans (h (s .path) (s .walk) (simple-short m s)) (s .less);
-  }

@@ -284,23 +284,6 @@ label-below P sd s l t h =
     let r = nextIn-arc (P .arcs) s l t h in
     omega (arith, sd .arc (r .0) (r .1) .labelBelow, r .3)
 
--- the order of arcs goes on
-before-trans : (a b c : Arc) → Before a b → Before b c → Before a c
-before-trans a b c (inl h) (inl k) = inl (omega arith)
-before-trans a b c (inl h) (inr k) = inl (omega arith)
-before-trans a b c (inr h) (inl k) = inl (omega arith)
-before-trans a b c (inr h) (inr k) = inr (omega arith)
-
--- of arcs that rise, an earlier one is before a later one
-pub rise-at : (as′ : List Arc) (d : Arc) → ArcsRise as′ → (i j : ℕ) → i < j → j < length as′ → Before (getD as′ i d) (getD as′ j d)
-rise-at [] d r i j h k = absurd (omega arith)
-rise-at (a ∷ []) d r i j h k = absurd (omega arith)
-rise-at (a ∷ b ∷ as′) d r i zero h k = absurd (omega arith)
-rise-at (a ∷ b ∷ as′) d r zero (suc zero) h k = r .0
-rise-at (a ∷ b ∷ as′) d r zero (suc (suc j)) h k =
-    before-trans a b (getD as′ j d) (r .0) (rise-at (b ∷ as′) d (r .1) 0 (suc j) (omega arith) (omega arith))
-rise-at (a ∷ b ∷ as′) d r (suc i) (suc j) h k = rise-at (b ∷ as′) d (r .1) i j (omega arith) (omega arith)
-
 -- there are such plans: the bytes of A are read
 pub planA-sound : (P : Plan) × IsSound P
 unfolding readPlan readFrom firstFault fault after width mayFollow inRange taskInRange arcInRange

@@ -20,24 +20,10 @@ fn put_rows(out: &mut [u8], at: usize, labels: &[u8], rows: &[u8]) -> usize
     let mut i = 0;
     while i < labels.len() {
         let gain = words::read_u16(rows, 3 * i + 1);
-        end = text::put_trace_line(
-            out,
-            end,
-            i as u64,
-            wide(labels[i]),
-            wide(rows[3 * i]),
-            gain as u64,
-        );
+        end = text::put_trace_line(out, end, i, labels[i], rows[3 * i], gain);
         i += 1;
     }
     end
-}
-
-// x, at a wider type.
-fn wide(x: u8) -> u64
-    ensures { λ r. ⌜ r ≡ x ⌝ }
-{
-    x as u64
 }
 
 // Room for the bytes of a trace.

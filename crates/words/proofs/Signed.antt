@@ -8,7 +8,7 @@ use native.Mathlib.Nat.{add-zero}
 use native.Mathlib.Decide.{decLt}
 use native.Mathlib.Omega.{arith}
 use lib.Dec.{T, leb→le, le→leb, ltb→lt, lt→ltb}
-use lib.IntN.{ℤ, pos, negsuc, negℤ, natAbs, subℕ, _+ℤ_, _-ℤ_, +ℤ-idl}
+use lib.IntN.{ℤ, pos, negsuc, negℤ, natAbs, subℕ, _+ℤ_, _-ℤ_}
 use lib.Signed.{mag, leZ, ltZ, _≤ℤ_, _<ℤ_}
 use borrow.Author.Tests.{lt-ltb, le-ltb}
 
@@ -19,10 +19,6 @@ up (negsuc n) = 0
 abbrev pub dn : ℤ → ℕ
 dn (pos n) = 0
 dn (negsuc n) = suc n
-
-pub up-dn : (z : ℤ) → z ≡ pos (up z) -ℤ pos (dn z)
-up-dn (pos n) = ap pos (sym (add-zero n))
-up-dn (negsuc n) = sym (+ℤ-idl (negsuc n))
 
 -- one of the two is zero
 pub up-or-dn : (z : ℤ) → (up z ≡ 0) ⊎ (dn z ≡ 0)

@@ -1,17 +1,25 @@
 // Big-endian numbers in slices of bytes, and writes that leave every other byte as it was.
 ghost use mathlib.Core.Path.{_≡_};
 ghost use Prim.Native.Nat.{_+_, _≤_, _<_};
-ghost use lib.ListN.{length, replicate};
+ghost use lib.ListN.{length, getD, replicate};
 ghost use Rattle.model.specs.Bytes.{number, bytes, signed, complement, part, overwrite};
+
+// The byte at a place.
+fn byte(s: &[u8], at: usize) -> u32
+    requires { ⌜ at < length (now s) ⌝ }
+    ensures { λ r. ⌜ (r ≡ getD (now (s .entry)) at 0) × (r < 256) ⌝ }
+{
+    s[at] as u32
+}
 
 // The number of two bytes.
 pub fn read_u16(s: &[u8], at: usize) -> u16
     requires { ⌜ at + 2 ≤ length (now s) ⌝ }
     ensures { λ r. ⌜ r ≡ number (part (now (s .entry)) at 2) ⌝ }
 {
-    let high = wide16(s[at]);
-    let low = wide16(s[at + 1]);
-    high * 256 + low
+    let high = byte(s, at);
+    let low = byte(s, at + 1);
+    (high * 256 + low) as u16
 }
 
 // The number of four bytes, as a sum over them: two such reads compile to one load.
@@ -19,10 +27,10 @@ pub fn read_u32(s: &[u8], at: usize) -> u32
     requires { ⌜ at + 4 ≤ length (now s) ⌝ }
     ensures { λ r. ⌜ r ≡ number (part (now (s .entry)) at 4) ⌝ }
 {
-    let a = wide32(s[at]);
-    let b = wide32(s[at + 1]);
-    let c = wide32(s[at + 2]);
-    let d = wide32(s[at + 3]);
+    let a = byte(s, at);
+    let b = byte(s, at + 1);
+    let c = byte(s, at + 2);
+    let d = byte(s, at + 3);
     a * 16777216 + b * 65536 + c * 256 + d
 }
 
@@ -31,8 +39,8 @@ pub fn read_u64(s: &[u8], at: usize) -> u64
     requires { ⌜ at + 8 ≤ length (now s) ⌝ }
     ensures { λ r. ⌜ r ≡ number (part (now (s .entry)) at 8) ⌝ }
 {
-    let high = wide64(read_u32(s, at));
-    let low = wide64(read_u32(s, at + 4));
+    let high = read_u32(s, at) as u64;
+    let low = read_u32(s, at + 4) as u64;
     high * 4294967296 + low
 }
 
@@ -124,27 +132,4 @@ pub fn copy(src: &[u8], from: usize, dst: &mut [u8], at: usize, n: usize)
         dst[at + copied] = src[from + copied];
         copied += 1;
     }
-}
-
-// x, at a wider type.
-fn wide16(x: u8) -> u16
-    ensures { λ r. ⌜ r ≡ x ⌝ }
-    ensures { λ r. ⌜ r < 256 ⌝ }
-{
-    x as u16
-}
-
-// x, at a wider type.
-fn wide32(x: u8) -> u32
-    ensures { λ r. ⌜ r ≡ x ⌝ }
-    ensures { λ r. ⌜ r < 256 ⌝ }
-{
-    x as u32
-}
-
-// x, at a wider type.
-fn wide64(x: u32) -> u64
-    ensures { λ r. ⌜ r ≡ x ⌝ }
-{
-    x as u64
 }

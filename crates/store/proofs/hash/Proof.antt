@@ -1,9 +1,9 @@
 -- `store::hash` meets its contract. The invariant of its loop: h is the hash of the first i bytes, and below the number of hashes. The measure is what is left of the row.
 -- Assumes nothing.
-use mathlib.Core.Path.{_≡_, refl, sym, ap, ap₂, _∙_}
+use mathlib.Core.Path.{_≡_, refl, sym, ap, _∙_}
 use Prim.Native.Nat.{ℕ, _-_, _≤_, _<_}
 use native.Mathlib.Omega.{arith}
-use lib.ListN.{length, take}
+use lib.ListN.{length, getD, take}
 use lib.Seq.{take-all}
 use borrow.Author.Needs.{needs}
 use Rattle.store.specs.Store.{rowBytes, hashes, hashStep, hashOf}
@@ -21,17 +21,11 @@ loop-holds : tie.Need-loop-holds Inv-loop μ-loop
 unfolding hashOf
 loop-holds c = (omega arith, refl, omega arith)
 
-mul-h : tie.Need-mul-h Inv-loop μ-loop
-mul-h c = omega arith
+element-copy-out-hash-step : tie.Need-element-copy-out-hash-step Inv-loop μ-loop
+element-copy-out-hash-step c = search needs
 
-element-copy-out-wide8 : tie.Need-element-copy-out-wide8 Inv-loop μ-loop
-element-copy-out-wide8 c = search needs
-
-wide8-requires : tie.Need-wide8-requires Inv-loop μ-loop
-wide8-requires c κs = search needs
-
-add-h : tie.Need-add-h Inv-loop μ-loop
-add-h c = omega arith
+hash-step-requires : tie.Need-hash-step-requires Inv-loop μ-loop
+hash-step-requires c κs = search needs
 
 add-i : tie.Need-add-i Inv-loop μ-loop
 add-i c = omega arith
@@ -45,8 +39,10 @@ loop-again c =
     let i = c .before .before .before .loop .i in
     let h : i < length row = omega arith in (
       omega arith,
-      ap₂ hashStep (c .before .before .before .loop .inv .1) (c .wide8 .ensures .0) ∙ sym (hash-more row i h),
-      omega arith,
+      c .hash-step .ensures .0
+          ∙ ap (λ (n : ℕ). hashStep n (getD row i 0)) (c .before .before .before .loop .inv .1)
+          ∙ sym (hash-more row i h),
+      c .hash-step .ensures .1,
     )
 
 returns : tie.Need-returns Inv-loop μ-loop
@@ -62,10 +58,8 @@ hash-spec =
     Inv-loop
     μ-loop
     loop-holds
-    mul-h
-    element-copy-out-wide8
-    wide8-requires
-    add-h
+    element-copy-out-hash-step
+    hash-step-requires
     add-i
     loop-less
     loop-again

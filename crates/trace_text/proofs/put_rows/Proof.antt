@@ -39,30 +39,21 @@ add-read-u16 c = search needs
 read-u16-requires : tie.Need-read-u16-requires Inv-loop μ-loop
 read-u16-requires c κs = search needs
 
-shared-slice-read-wide : tie.Need-shared-slice-read-wide Inv-loop μ-loop
-shared-slice-read-wide c = search needs
+shared-slice-read-put-trace-line : tie.Need-shared-slice-read-put-trace-line Inv-loop μ-loop
+shared-slice-read-put-trace-line c = search needs
 
-wide-requires : tie.Need-wide-requires Inv-loop μ-loop
-wide-requires c κs = search needs
+mul-put-trace-line : tie.Need-mul-put-trace-line Inv-loop μ-loop
+mul-put-trace-line c = search needs
 
-mul-wide : tie.Need-mul-wide Inv-loop μ-loop
-mul-wide c = search needs
-
-shared-slice-read-wide-2 : tie.Need-shared-slice-read-wide-2 Inv-loop μ-loop
-shared-slice-read-wide-2 c = search needs
-
-wide-requires-2 : tie.Need-wide-requires-2 Inv-loop μ-loop
-wide-requires-2 c κs = search needs
-
-cast-put-trace-line : tie.Need-cast-put-trace-line Inv-loop μ-loop
-cast-put-trace-line c = search needs
+shared-slice-read-put-trace-line-2 : tie.Need-shared-slice-read-put-trace-line-2 Inv-loop μ-loop
+shared-slice-read-put-trace-line-2 c = search needs
 
 put-trace-line-requires : tie.Need-put-trace-line-requires Inv-loop μ-loop
 put-trace-line-requires c κs =
-    let r = c .before .before .before .before .before in
+    let r = c .before .before .before in
     let l = r .before .before in
     let p = entry l .pre in
-    rw (c .before .before .wide .ensures, c .wide2 .ensures, r .read-u16 .ensures)
+    rw (r .read-u16 .ensures)
     (line-room _ _ _ _ _ _ _ (p .0) (p .1) (p .2) (labels-bytes l) (rows-bytes l) (l .loop .inv) (r .before .loop-test .taken))
 
 add-i : tie.Need-add-i Inv-loop μ-loop
@@ -74,12 +65,12 @@ loop-less c = search needs
 loop-again : tie.Need-loop-again Inv-loop μ-loop
 loop-again c =
     let q = c .before .before in
-    let r = q .before .before .before .before .before .before in
+    let r = q .before .before .before .before in
     let l = r .before .before in
     let p = entry l .pre in
     rw (add-one (l .loop .i))
     (writing-next _ _ _ _ _ _ _ (p .0) (p .1) (p .2) (labels-bytes l) (rows-bytes l) (l .loop .inv) (r .before .loop-test .taken) _ _
-    (rw (q .before .before .before .wide .ensures, q .before .wide2 .ensures, r .read-u16 .ensures) at (q .put-trace-line .ensures))
+    (rw (r .read-u16 .ensures) at (q .put-trace-line .ensures))
     (q .put-trace-line .kept .0))
 
 same-length : tie.Need-same-length Inv-loop μ-loop
@@ -101,12 +92,9 @@ put-rows-spec =
     mul-read-u16
     add-read-u16
     read-u16-requires
-    shared-slice-read-wide
-    wide-requires
-    mul-wide
-    shared-slice-read-wide-2
-    wide-requires-2
-    cast-put-trace-line
+    shared-slice-read-put-trace-line
+    mul-put-trace-line
+    shared-slice-read-put-trace-line-2
     put-trace-line-requires
     add-i
     loop-less
