@@ -1,0 +1,57 @@
+/* Calls the library as a C program does: solves case B, checks the certificate, traces labels 2, 1, 0, and sees that refusals
+   leave memory as it was. */
+#include <stdio.h>
+#include <string.h>
+
+#include "jovnetal.h"
+
+static const uint8_t plan[] = {1, 1, 1, 1, 1, 2, 2, 3, 2, 1, 3, 1, 4, 0, 0, 0, 4, 0, 1, 0, 4, 0, 2, 0, 4, 0, 3, 0, 5};
+static const uint8_t labels[] = {2, 1, 0};
+static uint8_t work[JOVNETAL_WORK_ROOM];
+static uint8_t certificate[JOVNETAL_CERTIFICATE_ROOM];
+static uint8_t slots[JOVNETAL_TRACE_ROOM];
+
+static int failures;
+
+static void expect(int holds, const char *what) {
+    if (!holds) {
+        printf("not so: %s\n", what);
+        failures++;
+    }
+}
+
+static int all(const uint8_t *bytes, size_t length, uint8_t value) {
+    for (size_t i = 0; i < length; i++) {
+        if (bytes[i] != value) {
+            return 0;
+        }
+    }
+    return 1;
+}
+
+int main(void) {
+    static const uint8_t traced[] = {2, 0, 0, 1, 0, 1, 0, 0, 0};
+    uint64_t numbers[4] = {7, 7, 7, 7};
+    uint64_t n;
+
+    memset(certificate, 7, sizeof certificate);
+    expect(jovnetal_solve(plan, 3, work, sizeof work, certificate, sizeof certificate) == JOVNETAL_REFUSED + 1, "a plan cut off is refused with 1");
+    expect(jovnetal_solve(plan, sizeof plan, work, sizeof work - 1, certificate, sizeof certificate) == JOVNETAL_REFUSED + 11,
+           "short work memory is refused with 11");
+    expect(all(certificate, sizeof certificate, 7), "a refusal leaves the output as it was");
+
+    n = jovnetal_solve(plan, sizeof plan, work, sizeof work, certificate, sizeof certificate);
+    expect(n < JOVNETAL_REFUSED && all(certificate + n, sizeof certificate - n, 7), "bytes past the certificate are as they were");
+    expect(all(work, sizeof work, 0), "work memory is zero after a call");
+
+    expect(jovnetal_check(plan, sizeof plan, certificate, n - 1, work, sizeof work, numbers) == 6, "a certificate cut off is refused with 6");
+    expect(numbers[0] == 7 && numbers[3] == 7, "a refusal leaves the numbers as they were");
+    expect(jovnetal_check(plan, sizeof plan, certificate, n, work, sizeof work, numbers) == 0, "the certificate is accepted");
+    expect(numbers[0] == 1 && numbers[1] == 3 && numbers[2] == 5 && numbers[3] == 3, "the share is 1/3 of 5 nodes, with allowance 3");
+
+    n = jovnetal_trace(plan, sizeof plan, labels, sizeof labels, slots, sizeof slots);
+    expect(n == sizeof traced && memcmp(slots, traced, sizeof traced) == 0, "tasks 2, 1, none run, and the gains are 0, 1, 0");
+
+    printf("C: p/q = %llu/%llu, %s\n", (unsigned long long)numbers[0], (unsigned long long)numbers[1], failures ? "FAILED" : "all as said");
+    return failures != 0;
+}

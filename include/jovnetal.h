@@ -1,0 +1,47 @@
+/* The calls of the kept-share analyser, for C and C++. `rt staticlib exports` writes target/staticlib/libexports.a, which has them.
+
+   Buffers are lent for the time of a call: each is a pointer, which must not be null, and the number of bytes behind it. No
+   buffer that a call writes to may overlap another one. Any bytes may stand in plan, labels and certificate: a call always
+   returns, reads and writes nothing outside what it was lent, and tells what is wrong by the number of the refusal
+   (README.md has the table). */
+#ifndef JOVNETAL_H
+#define JOVNETAL_H
+
+#include <stddef.h>
+#include <stdint.h>
+
+#ifdef __cplusplus
+extern "C" {
+#endif
+
+/* The least bytes to lend: work memory, the output of a certificate, the output of a trace. With fewer the refusal is 11. */
+#define JOVNETAL_WORK_ROOM 65536
+#define JOVNETAL_CERTIFICATE_ROOM 15375
+#define JOVNETAL_TRACE_ROOM 12288
+
+/* A call that writes bytes answers their number, or the number of the refusal and this. */
+#define JOVNETAL_REFUSED 65536
+
+/* Writes the certificate of a plan to out.
+   Answers the number of bytes written, or JOVNETAL_REFUSED + n: 11, 1 to 5.
+   Memory: bytes of out past the last one written keep what they had; after a refusal all do. work is all zero, or as it was after 11. */
+uint64_t jovnetal_solve(const uint8_t *plan, size_t plan_length, uint8_t *work, size_t work_length, uint8_t *out, size_t out_length);
+
+/* Checks a certificate against a plan, whoever wrote it.
+   Answers 0, with p, q, N and K in numbers, or the number of the refusal: 11, 1 to 5, 6 to 10.
+   Memory: after a refusal numbers keeps what it had. work is all zero, or as it was after 11. */
+uint64_t jovnetal_check(const uint8_t *plan, size_t plan_length, const uint8_t *certificate, size_t certificate_length,
+                        uint8_t *work, size_t work_length, uint64_t numbers[4]);
+
+/* Traces a plan's policy over labels, one byte each: for each label three bytes are written to out, the task that ran (0 for
+   none) and the gain of the slot, most significant byte first.
+   Answers the number of bytes written, or JOVNETAL_REFUSED + n: 11, 1 to 4, 12, 13.
+   Memory: bytes of out past the last one written keep what they had; after a refusal all do. */
+uint64_t jovnetal_trace(const uint8_t *plan, size_t plan_length, const uint8_t *labels, size_t label_count,
+                        uint8_t *out, size_t out_length);
+
+#ifdef __cplusplus
+}
+#endif
+
+#endif
