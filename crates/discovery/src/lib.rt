@@ -22,6 +22,13 @@ const TAKEN: usize = policy::CELLS;
 
 const STATE: usize = policy::CELLS + 1;
 
+// Where edges leave: a node with its number, and their label.
+pub struct Source {
+    pub number: usize,
+    pub node: Node,
+    pub label: u8,
+}
+
 // A node as a row.
 pub fn row_of(node: Node) -> [u8; store::ROW_BYTES]
     requires { ⌜ length (node .cells) ≡ cellCount ⌝ }
@@ -99,7 +106,7 @@ fn add_outcomes(
 }
 
 // A node, and the label of the edges that leave it.
-struct Source {
+struct Departure {
     node: Node,
     label: u8,
 }
@@ -107,19 +114,19 @@ struct Source {
 // The nodes that a label leads to from a node, in this state, join those in the store. The number of nodes then.
 fn explore_label(
     rules: Rules,
-    source: Source,
+    from: Departure,
     state: u8,
     notes: &mut [u8],
     m: &mut [u8],
     n: usize,
 ) -> usize
-    requires { ⌜ Ruled rules × Cells (tasksIn rules) cellCount (source .node .cells) ⌝ }
+    requires { ⌜ Ruled rules × Cells (tasksIn rules) cellCount (from .node .cells) ⌝ }
     requires { ⌜ Holding (tasksIn rules) (now m) n × (noteRoom ≤ length (now notes)) ⌝ }
-    ensures { λ r. ⌜ Explored rules (λ P. edgesTo P (nodeOf (tasksIn rules) (source .node)) (source .label) (some state)) (now (m .entry)) n (now (m .exit)) r ⌝ }
+    ensures { λ r. ⌜ Explored rules (λ P. edgesTo P (nodeOf (tasksIn rules) (from .node)) (from .label) (some state)) (now (m .entry)) n (now (m .exit)) r ⌝ }
     ensures { λ _. ⌜ NotesFree (now (notes .entry)) (now (notes .exit)) ⌝ }
 {
-    let node = source.node;
-    let noted = graph::reach(rules, node, source.label, notes);
+    let node = from.node;
+    let noted = graph::reach(rules, node, from.label, notes);
     let count = noted.count;
     let done = noted.done;
     let cells = done.cells;
@@ -130,22 +137,22 @@ fn explore_label(
 fn follow_label(
     next: &[u8; plan::PAIRS],
     rules: Rules,
-    source: Source,
+    from: Departure,
     notes: &mut [u8],
     m: &mut [u8],
     n: usize,
 ) -> usize
-    requires { ⌜ Ruled rules × Cells (tasksIn rules) cellCount (source .node .cells) × (source .node .state < maxStates) ⌝ }
+    requires { ⌜ Ruled rules × Cells (tasksIn rules) cellCount (from .node .cells) × (from .node .state < maxStates) ⌝ }
     requires { ⌜ Holding (tasksIn rules) (now m) n × (noteRoom ≤ length (now notes)) ⌝ }
-    ensures { λ r. ⌜ Explored rules (edgesBy (now (next .entry)) (nodeOf (tasksIn rules) (source .node)) (source .label)) (now (m .entry)) n (now (m .exit)) r ⌝ }
+    ensures { λ r. ⌜ Explored rules (edgesBy (now (next .entry)) (nodeOf (tasksIn rules) (from .node)) (from .label)) (now (m .entry)) n (now (m .exit)) r ⌝ }
     ensures { λ _. ⌜ NotesFree (now (notes .entry)) (now (notes .exit)) ⌝ }
 {
-    let node = source.node;
-    let to = plan::next_state(next, node.state, source.label);
+    let node = from.node;
+    let to = plan::next_state(next, node.state, from.label);
     if to == 0 {
         return n;
     }
-    explore_label(rules, source, to - 1, notes, m, n)
+    explore_label(rules, from, to - 1, notes, m, n)
 }
 
 // The nodes that edges lead to from a node, labels upward, join those in the store. The number of nodes then.
@@ -166,8 +173,8 @@ fn explore_node(
     let mut known = n;
     let mut label = 0;
     while label < labels {
-        let source = Source { node, label };
-        known = follow_label(next, rules, source, notes, m, known);
+        let from = Departure { node, label };
+        known = follow_label(next, rules, from, notes, m, known);
         if store::MAX_ROWS < known {
             return known;
         }

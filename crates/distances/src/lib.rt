@@ -1,5 +1,6 @@
 // The search for the distances of a plan's nodes at a fraction: passes over the edges, until none gives a smaller distance or a cycle is
 // found that costs less than 0.
+use discovery::Source;
 use links::Link;
 use links::Way;
 use node::Node;
@@ -28,13 +29,6 @@ pub struct Prices {
 pub struct Tried {
     pub moved: bool,
     pub steps: usize,
-}
-
-// A node with its number, and a label to leave it by.
-struct Source {
-    number: usize,
-    node: Node,
-    label: u8,
 }
 
 // Where a label leads from a numbered node: so many noted patterns, each with the policy's cells and gain and the automaton's state.

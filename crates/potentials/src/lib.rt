@@ -1,4 +1,5 @@
 // The potentials of a certificate, tested against every edge of the graph.
+use discovery::Source;
 use node::Node;
 use policy::Rules;
 ghost use mathlib.Core.Path.{_≡_};
@@ -32,13 +33,6 @@ pub struct Claim {
 struct Setting {
     claim: Claim,
     rules: Rules,
-}
-
-// Where edges leave: a node with its number, and their label.
-struct Source {
-    number: usize,
-    node: Node,
-    label: u8,
 }
 
 // Where a label leads: so many noted patterns, each with the policy's cells and the automaton's state.

@@ -31,10 +31,10 @@ returns c =
     let noted = call .reach .ensures in
     let d = call .reach .result in
     let after = call .reach .last .1 .1 .1 .0 in
-    let low : a .source .node .taken < maskCount = omega (arith, start .good) in (
-      label-explored (a .rules) (a .source .node) (a .source .label) (a .state) (d .done) (orderIn after (d .count)) (a .m .now) (a .n)
+    let low : a .from .node .taken < maskCount = omega (arith, start .good) in (
+      label-explored (a .rules) (a .from .node) (a .from .label) (a .state) (d .done) (orderIn after (d .count)) (a .m .now) (a .n)
           (added .add-outcomes .last .0) (added .add-outcomes .result)
-          (label-order (tasksIn (a .rules)) (start .pre .0 .0 .tasks) (a .source .label) (a .source .node .taken) low after (d .count) (noted .notes))
+          (label-order (tasksIn (a .rules)) (start .pre .0 .0 .tasks) (a .from .label) (a .from .node .taken) low after (d .count) (noted .notes))
           (noted .slot) (start .pre .1 .0) (added .add-outcomes .ensures),
       noted .only,
     )

@@ -23,9 +23,9 @@ returns : tie.Need-returns
 returns c =
     let start = c .before .before .before .before .before in
     let a = start .args in
-    let u = nodeOf (tasksIn (a .rules)) (a .source .node) in (
-      explored-same (a .rules) (λ P. []) (edgesBy (a .next .now) u (a .source .label)) (a .m .now) (a .n) (a .m .now) (a .n)
-          (λ P. ap (edgesTo P u (a .source .label)) (ap nextOf (sym (c .if1 .taken)) ∙ c .before .next-state .ensures))
+    let u = nodeOf (tasksIn (a .rules)) (a .from .node) in (
+      explored-same (a .rules) (λ P. []) (edgesBy (a .next .now) u (a .from .label)) (a .m .now) (a .n) (a .m .now) (a .n)
+          (λ P. ap (edgesTo P u (a .from .label)) (ap nextOf (sym (c .if1 .taken)) ∙ c .before .next-state .ensures))
           (explored-none (a .rules) (a .m .now) (a .n) (start .pre .1 .0)),
       only-refl,
     )
@@ -48,12 +48,12 @@ returns-2 c =
     let read = call .before .before .before .before in
     let start = read .before .before .before .before in
     let a = start .args in
-    let u = nodeOf (tasksIn (a .rules)) (a .source .node) in
+    let u = nodeOf (tasksIn (a .rules)) (a .from .node) in
     let to = read .next-state .result in
     let admitted : 0 < to = omega (arith, call .before .before .before .if1 .left) in (
-      explored-same (a .rules) (λ P. edgesTo P u (a .source .label) (some (to - 1))) (edgesBy (a .next .now) u (a .source .label))
+      explored-same (a .rules) (λ P. edgesTo P u (a .from .label) (some (to - 1))) (edgesBy (a .next .now) u (a .from .label))
           (a .m .now) (a .n) (call .explore-label .last .1 .1 .1 .1 .0) (call .explore-label .result)
-          (λ P. ap (edgesTo P u (a .source .label)) (sym (next-some to admitted) ∙ read .next-state .ensures))
+          (λ P. ap (edgesTo P u (a .from .label)) (sym (next-some to admitted) ∙ read .next-state .ensures))
           (call .explore-label .ensures .0),
       call .explore-label .ensures .1,
     )
