@@ -1,5 +1,5 @@
-/* Calls the library as a C program does: solves case B, checks the certificate, traces labels 2, 1, 0, and sees that refusals
-   leave memory as it was. */
+/* Calls the library as a C program does: solves case B, checks the certificate, traces labels 2, 1, 0, gives task 1 a gap of two
+   slots, and sees that refusals leave memory as it was. */
 #include <stdio.h>
 #include <string.h>
 
@@ -10,6 +10,7 @@ static const uint8_t labels[] = {2, 1, 0};
 static uint8_t work[JOVNETAL_WORK_ROOM];
 static uint8_t certificate[JOVNETAL_CERTIFICATE_ROOM];
 static uint8_t slots[JOVNETAL_TRACE_ROOM];
+static uint8_t apart[JOVNETAL_PLAN_ROOM];
 
 static int failures;
 
@@ -31,6 +32,7 @@ static int all(const uint8_t *bytes, size_t length, uint8_t value) {
 
 int main(void) {
     static const uint8_t traced[] = {2, 0, 0, 1, 0, 1, 0, 0, 0};
+    static const uint8_t gap[] = {1, 1, 1, 1, 1, 2, 2, 3, 2, 1, 3, 2, 4, 0, 0, 0, 4, 0, 1, 1, 4, 0, 2, 0, 4, 0, 3, 1, 4, 1, 0, 0, 4, 1, 2, 0, 5};
     uint64_t numbers[4] = {7, 7, 7, 7};
     uint64_t n;
 
@@ -51,6 +53,13 @@ int main(void) {
 
     n = jovnetal_trace(plan, sizeof plan, labels, sizeof labels, slots, sizeof slots);
     expect(n == sizeof traced && memcmp(slots, traced, sizeof traced) == 0, "tasks 2, 1, none run, and the gains are 0, 1, 0");
+
+    memset(apart, 7, sizeof apart);
+    expect(jovnetal_gap(plan, sizeof plan, 3, 2, apart, sizeof apart) == JOVNETAL_REFUSED + 14, "a gap for a third task is refused with 14");
+    expect(all(apart, sizeof apart, 7), "and leaves the output as it was");
+    n = jovnetal_gap(plan, sizeof plan, 1, 2, apart, sizeof apart);
+    expect(n == sizeof gap && memcmp(apart, gap, sizeof gap) == 0, "a gap of two slots has two states");
+    expect(all(apart + n, sizeof apart - n, 7), "bytes past the plan are as they were");
 
     printf("C: p/q = %llu/%llu, %s\n", (unsigned long long)numbers[0], (unsigned long long)numbers[1], failures ? "FAILED" : "all as said");
     return failures != 0;

@@ -14,10 +14,11 @@
 extern "C" {
 #endif
 
-/* The least bytes to lend: work memory, the output of a certificate, the output of a trace. With fewer the refusal is 11. */
+/* The least bytes to lend: work memory, and the output of a certificate, of a trace and of a plan. With fewer the refusal is 11. */
 #define JOVNETAL_WORK_ROOM 65536
 #define JOVNETAL_CERTIFICATE_ROOM 15375
 #define JOVNETAL_TRACE_ROOM 12288
+#define JOVNETAL_PLAN_ROOM 1045
 
 /* A call that writes bytes answers their number, or the number of the refusal and this. */
 #define JOVNETAL_REFUSED 65536
@@ -39,6 +40,12 @@ uint64_t jovnetal_check(const uint8_t *plan, size_t plan_length, const uint8_t *
    Memory: bytes of out past the last one written keep what they had; after a refusal all do. */
 uint64_t jovnetal_trace(const uint8_t *plan, size_t plan_length, const uint8_t *labels, size_t label_count,
                         uint8_t *out, size_t out_length);
+
+/* Writes a plan's tasks and policy to out with an automaton that admits exactly the runs in which any two releases of the task are at
+   least so many slots apart; other tasks are free. Tasks are numbered from 1.
+   Answers the number of bytes written, or JOVNETAL_REFUSED + n: 11, 1 to 4, 14.
+   Memory: bytes of out past the last one written keep what they had; after a refusal all do. */
+uint64_t jovnetal_gap(const uint8_t *plan, size_t plan_length, uint64_t task, uint64_t slots, uint8_t *out, size_t out_length);
 
 #ifdef __cplusplus
 }

@@ -1,6 +1,7 @@
 // Runs each case of cases.bin, and writes what its kind writes for it. The file has the number of cases in two bytes, and then
 // for each one byte with its kind and its fields, each behind two bytes of its length.
 mod checks; // checks.rt: a plan and a certificate
+mod gaps; // gaps.rt: a plan, a task and a gap, and an output
 mod plans; // plans.rt: a plan
 mod solves; // solves.rt: a plan and the head of its certificate
 mod traces; // traces.rt: a plan and its labels
@@ -14,6 +15,8 @@ const TRACE: u8 = 2;
 const CHECK: u8 = 3;
 
 const SOLVE: u8 = 4;
+
+const GAP: u8 = 5;
 
 fn main() {
     let mut count = [0u8; 2];
@@ -35,6 +38,9 @@ fn main() {
             }
             SOLVE => {
                 solves::solve_case(file);
+            }
+            GAP => {
+                gaps::gap_case(file);
             }
             _ => {
                 io::write_all(STDOUT_FILENO, b"unknown kind\n");

@@ -5,7 +5,7 @@ ghost use Prim.Native.Nat.{ℕ, _≤_};
 ghost use lib.ListN.{length};
 ghost use Rattle.io.specs.Counts.{Counts};
 ghost use Rattle.model.specs.Plan.{readPlan};
-ghost use Rattle.text.specs.Put.{Put};
+ghost use Rattle.model.specs.Bytes.{Put};
 ghost use Rattle.cases.specs.Lines.{planLine};
 use libc::STDOUT_FILENO;
 use plan::Outcome;

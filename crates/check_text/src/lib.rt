@@ -6,11 +6,10 @@ ghost use Prim.Native.Nat.{_+_, _≤_};
 ghost use lib.Dec.{leb};
 ghost use lib.ListN.{length};
 ghost use Rattle.io.specs.Counts.{Counts};
-ghost use Rattle.model.specs.Bytes.{workAfter};
+ghost use Rattle.model.specs.Bytes.{workAfter, Put};
 ghost use Rattle.model.specs.Check.{share, thousandths, check};
 ghost use Rattle.model.specs.Limits.{workRoom};
 ghost use Rattle.model.specs.Text.{thousandthsText, checkText};
-ghost use Rattle.text.specs.Put.{Put};
 ghost use Rattle.check_text.specs.Line.{numberRoom, lineRoom};
 
 // Room for the line of a check.

@@ -3,16 +3,19 @@ use mathlib.Core.Path.{_≡_}
 use mathlib.Core.List.{List, [], _∷_}
 use Prim.Native.Nat.{ℕ, _+_}
 use Rattle.model.specs.Check.{CheckAnswer}
-use Rattle.model.specs.Trace.{TraceResult}
-use Rattle.solver.specs.declared.Answer.{Answer}
-use Rattle.solver.specs.declared.Answer.the-variants.{Refused, Written}
+use Rattle.model.specs.Calls.{Result, refused, written}
+use Rattle.solver.specs.declared.Answer as solver
+use Rattle.solver.specs.declared.Answer.the-variants as solved
 use Rattle.refusals.specs.Numbers.{refusalNumber}
+use Rattle.refusals.specs.declared.Answer.{Answer}
+use Rattle.refusals.specs.Told.{resultBy}
+use Rattle.gap.specs.Promise.{Rewrites}
 use Rattle.solver.specs.Promise.{Solves}
 
 -- the bytes written, or 65,536 and the number of the refusal
-abbrev pub traceCode : TraceResult → ℕ
-traceCode (TraceResult.refused n) = 65536 + n
-traceCode (TraceResult.written n) = n
+abbrev pub codeOf : Result → ℕ
+codeOf (refused n) = 65536 + n
+codeOf (written n) = n
 
 -- 0, or the number of the refusal
 abbrev pub checkCode : CheckAnswer → ℕ
@@ -25,12 +28,18 @@ numbersAfter (CheckAnswer.refused n) before = before
 numbersAfter (CheckAnswer.share p q n k) before = p ∷ q ∷ n ∷ k ∷ []
 
 -- the bytes written, or 65,536 and the number of the refusal
-abbrev pub solveCode : Answer → ℕ
-solveCode (Refused r) = 65536 + refusalNumber r
-solveCode (Written n) = n
+abbrev pub solveCode : solver.Answer → ℕ
+solveCode (solved.Refused r) = 65536 + refusalNumber r
+solveCode (solved.Written n) = n
 
 -- the number of an answer that keeps the solver's promise
 pub record SolvesAs (plan work work′ out out′ : List ℕ) (r : ℕ) : Type 0 where
-  pub answer : Answer
+  pub answer : solver.Answer
   pub code : r ≡ solveCode answer
   pub solves : Solves plan work work′ out out′ answer
+
+-- the number of an answer that keeps the gap call's promise
+pub record RewritesAs (plan : List ℕ) (task slots : ℕ) (out out′ : List ℕ) (r : ℕ) : Type 0 where
+  pub answer : Answer
+  pub code : r ≡ codeOf (resultBy answer)
+  pub rewrites : Rewrites plan task slots out out′ answer

@@ -1,25 +1,33 @@
 // The calls for programs in C and Rust: numbers, byte slices and arrays of numbers alone.
+use refusals::Answer;
 ghost use mathlib.Core.Path.{_≡_};
 ghost use lib.Dec.{leb};
 ghost use lib.ListN.{length};
 ghost use Rattle.model.specs.Bytes.{workAfter};
+ghost use Rattle.model.specs.Calls.{resultOf, outputAfter};
 ghost use Rattle.model.specs.Check.{check};
 ghost use Rattle.model.specs.Limits.{workRoom};
 ghost use Rattle.model.specs.Trace as model-trace;
-ghost use Rattle.exports.specs.Codes.{traceCode, checkCode, numbersAfter, SolvesAs};
-use tracer::Answer;
+ghost use Rattle.exports.specs.Codes.{codeOf, checkCode, numbersAfter, SolvesAs, RewritesAs};
+ghost use Rattle.refusals.specs.Told.{resultBy};
 
-// The trace call: the number of bytes written, or 65,536 and the number of the refusal.
-#[no_mangle]
-pub extern "C" fn jovnetal_trace(plan: &[u8], labels: &[u8], out: &mut [u8]) -> u64
-    ensures { λ r. ⌜ r ≡ traceCode (model-trace.resultOf (model-trace.trace (now (plan .entry)) (now (labels .entry)) (length (now (out .entry))))) ⌝ }
-    ensures { λ _. ⌜ now (out .exit) ≡ model-trace.outputAfter (model-trace.trace (now (plan .entry)) (now (labels .entry)) (length (now (out .entry)))) (now (out .entry)) ⌝ }
+// The number of bytes written, or 65,536 and the number of the refusal.
+fn code(answer: Answer) -> u64
+    ensures { λ r. ⌜ r ≡ codeOf (resultBy answer) ⌝ }
 {
-    let answer = tracer::trace(plan, labels, out);
     match answer {
         Answer::Refused(r) => 65536 + r.number(),
         Answer::Written(n) => n as u64,
     }
+}
+
+// The trace call: the number of bytes written, or 65,536 and the number of the refusal.
+#[no_mangle]
+pub extern "C" fn jovnetal_trace(plan: &[u8], labels: &[u8], out: &mut [u8]) -> u64
+    ensures { λ r. ⌜ r ≡ codeOf (resultOf model-trace.traceBytes (model-trace.trace (now (plan .entry)) (now (labels .entry)) (length (now (out .entry))))) ⌝ }
+    ensures { λ _. ⌜ now (out .exit) ≡ outputAfter model-trace.traceBytes (model-trace.trace (now (plan .entry)) (now (labels .entry)) (length (now (out .entry)))) (now (out .entry)) ⌝ }
+{
+    code(tracer::trace(plan, labels, out))
 }
 
 // The check call: 0 and the numbers p, q, N and K, or the number of the refusal and the numbers as they were.
@@ -54,4 +62,12 @@ pub extern "C" fn jovnetal_solve(plan: &[u8], work: &mut [u8], out: &mut [u8]) -
         solver::Answer::Refused(r) => 65536 + r.number(),
         solver::Answer::Written(n) => n as u64,
     }
+}
+
+// The gap call: the number of bytes written, or 65,536 and the number of the refusal.
+#[no_mangle]
+pub extern "C" fn jovnetal_gap(plan: &[u8], task: u64, slots: u64, out: &mut [u8]) -> u64
+    ensures { λ r. ⌜ RewritesAs (now (plan .entry)) task slots (now (out .entry)) (now (out .exit)) r ⌝ }
+{
+    code(gap::rewrite(plan, task, slots, out))
 }

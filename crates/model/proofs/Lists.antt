@@ -97,6 +97,17 @@ module _ {ℓ κ} {A : Type ℓ} {B : Type κ} where
   map-same f g [] h = refl
   map-same f g (x ∷ l) h = ap₂ (λ y k. y ∷ k) (h x (List·Memᴰ·head refl)) (map-same f g l (λ a m. h a (List·Memᴰ·tail m)))
 
+  -- functions that agree on the list
+  pub flatMap-same : (f g : A → List B) (l : List A) → ((a : A) → List·Memᴰ a l → f a ≡ g a) → flatMap f l ≡ flatMap g l
+  flatMap-same f g [] h = refl
+  flatMap-same f g (x ∷ l) h =
+      ap₂ (λ a b. a ++ b) (h x (List·Memᴰ·head refl)) (flatMap-same f g l (λ a m. h a (List·Memᴰ·tail m)))
+
+  pub flatMap-none : (f : A → List B) (l : List A) → ((a : A) → List·Memᴰ a l → f a ≡ []) → flatMap f l ≡ []
+  flatMap-none f [] h = refl
+  flatMap-none f (x ∷ l) h =
+      ap₂ (λ a b. a ++ b) (h x (List·Memᴰ·head refl)) (flatMap-none f l (λ a m. h a (List·Memᴰ·tail m)))
+
   pub flatMap-append : (f : A → List B) (l l′ : List A) → flatMap f (l ++ l′) ≡ flatMap f l ++ flatMap f l′
   flatMap-append f [] l′ = refl
   flatMap-append f (x ∷ l) l′ = ap (λ k. f x ++ k) (flatMap-append f l l′) ∙ sym (append-assoc (f x) (flatMap f l) (flatMap f l′))

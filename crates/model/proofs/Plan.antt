@@ -3,6 +3,7 @@
 use mathlib.Core.Path.{_≡_, refl, ap, _∙_}
 use mathlib.Core.Bool.{Bool, true, false, cond, _&&_, _||_, false≢true}
 use mathlib.Core.List.{List, [], _∷_, _++_}
+use mathlib.Core.Option.{Option, none, some}
 use Prim.Native.Nat.{ℕ, zero, suc, _+_, _-_, _^_, _≤_, _<_}
 use native.Mathlib.Nat.{not-suc-le-zero}
 use native.Mathlib.Omega.{arith}
@@ -10,7 +11,7 @@ use borrow.Author.Tests.{ltb-true, ltb-false, leb-true}
 use lib.Dec.{eqb, ltb, leb}
 use lib.ListN.{length, getD, drop, length-drop}
 use lib.Seq.{drop-cons, drop-drop, getD-drop}
-use Rattle.model.specs.Plan.{Arc, Reading, readCommands, readFrom, refusedOr, firstFault, fault, after, width, atEnd, mayFollow, inRange, arcInRange, pairRises, rising, pairBelow, unknown, isZero}
+use Rattle.model.specs.Plan.{Arc, isArc, nextIn, Reading, readCommands, readFrom, refusedOr, firstFault, fault, after, width, atEnd, mayFollow, inRange, arcInRange, pairRises, rising, pairBelow, unknown, isZero}
 use Rattle.model.specs.Limits.{maxTasks, maxStates}
 
 pub both : (a b : Bool) → (a && b) ≡ true → (a ≡ true) × (b ≡ true)
@@ -125,3 +126,23 @@ pub rising-last : (as′ : List Arc) (a : Arc) (s l : ℕ) → rising (as′ ++ 
 rising-last [] a s l = refl
 rising-last (b ∷ []) a s l = refl
 rising-last (b ∷ d ∷ as′) a s l = rising-last (d ∷ as′) a s l
+
+-- ---- the next state
+
+abbrev pub orElse : Option ℕ → Option ℕ → Option ℕ
+orElse none b = b
+orElse (some t) b = some t
+
+pub orElse-none : (a : Option ℕ) → orElse a none ≡ a
+orElse-none none = refl
+orElse-none (some t) = refl
+
+-- a label is looked up among the first arcs, then among the others
+pub next-append : (as′ bs : List Arc) (s l : ℕ) → nextIn (as′ ++ bs) s l ≡ orElse (nextIn as′ s l) (nextIn bs s l)
+next-append [] bs s l = refl
+next-append (a ∷ as′) bs s l = go (isArc s l a) (next-append as′ bs s l)
+  where
+    go : (b : Bool) → nextIn (as′ ++ bs) s l ≡ orElse (nextIn as′ s l) (nextIn bs s l) →
+        cond b (some (a .to)) (nextIn (as′ ++ bs) s l) ≡ orElse (cond b (some (a .to)) (nextIn as′ s l)) (nextIn bs s l)
+    go true h = refl
+    go false h = h

@@ -42,6 +42,12 @@ cleared memory = replicate (length memory) 0
 abbrev pub workAfter : Bool → List ℕ → List ℕ
 workAfter enough before = cond enough (cleared before) before
 
+-- What a function that writes bytes promises: they stand at the place, every other byte is as it was, and the answer is the place after
+-- them.
+pub record Put (before after : List ℕ) (at : ℕ) (bs : List ℕ) (r : ℕ) : Type 0 where
+  pub bytes : after ≡ overwrite before at bs
+  pub next : r ≡ at + length bs
+
 -- What scratch memory holds is free: the k bytes from a place on may be any, and every other byte is as it was.
 pub record Only (at k : ℕ) (before after : List ℕ) : Type 0 where
   pub long : length after ≡ length before

@@ -8,12 +8,13 @@ use Rattle.model.specs.Limits.{workRoom, traceRoom}
 use Rattle.model.specs.Lists.{flatMap, upFrom}
 use Rattle.model.specs.Bytes.{number, signed}
 use Rattle.model.specs.Plan.{readPlan, readFrom, firstFault, fault, after, width, mayFollow, inRange, taskInRange, arcInRange}
-use Rattle.model.specs.Slot.{slot, ready, first, key}
+use Rattle.model.specs.Slot.{Done, slot, ready, first, key}
 use Rattle.model.specs.Masks.{masksOf}
 use Rattle.model.specs.Graph.{choices, edgeOf, edgesAt, edges, explored, nodes, tooLarge}
 use Rattle.model.specs.Certificate.{Certificate, readCertificate, readPotentials, readSteps}
 use Rattle.model.specs.Check.{CheckAnswer, check, verdict, fractionOk, gcd, potentialsOk, cycleOk, follow, allowance, thousandths}
-use Rattle.model.specs.Trace.{TraceAnswer, trace, traceRun}
+use Rattle.model.specs.Calls.{Writing, refuses, writes}
+use Rattle.model.specs.Trace.{trace, traceRun}
 
 -- what goes in: the bytes of a plan with those of a certificate or with labels, or of a certificate alone
 pub data Input : Type 0 where
@@ -32,9 +33,9 @@ abbrev pub checked : CheckAnswer → Output
 checked (CheckAnswer.refused n) = refusal n
 checked (CheckAnswer.share p q n k) = line p q n k (thousandths p q)
 
-abbrev pub traced : TraceAnswer → Output
-traced (TraceAnswer.refused n) = refusal n
-traced (TraceAnswer.traced ds) = slots (map (λ d. (d .ran, d .gain)) ds)
+abbrev pub traced : Writing (List Done) → Output
+traced (refuses n) = refusal n
+traced (writes ds) = slots (map (λ d. (d .ran, d .gain)) ds)
 
 abbrev pub potentialsRead : Option Certificate → Output
 potentialsRead none = signs []

@@ -12,6 +12,9 @@ pub mod Share
 pub mod Certificate
 pub mod Check
 pub mod Solve
+pub mod Calls
 pub mod Trace
+pub mod PlanBytes
+pub mod Gap
 pub mod Text
 pub mod Cases

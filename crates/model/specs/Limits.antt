@@ -49,3 +49,15 @@ certificateRoom = 15375
 
 abbrev pub traceRoom : ℕ
 traceRoom = 12288
+
+-- V is one byte of a plan
+abbrev pub valueWidth : ℕ
+valueWidth = 1
+
+-- the longest plan: four tasks, policy, states, an arc for each pair of a state and a label, end
+abbrev pub planRoom : ℕ
+planRoom = 1045
+
+-- a gap is of 1 to 16 slots: its automaton has as many states
+abbrev pub maxGap : ℕ
+maxGap = maxStates

@@ -60,3 +60,9 @@ tooManyLabels = 12
 -- 13, a label not admitted in the state reached
 abbrev pub notAdmitted : ℕ
 notAdmitted = 13
+
+-- Whoever asks for a plan to be written from another.
+
+-- 14, a gap of 0 or above 16, or of a task that is not in the plan
+abbrev pub badGap : ℕ
+badGap = 14

@@ -6,7 +6,9 @@ use mathlib.Core.Option.{Option, none, some}
 use lib.Dec.{ltb}
 use Rattle.model.specs.Slot.{Done}
 use Rattle.model.specs.Check.{CheckAnswer, refused, share, thousandths}
-use Rattle.model.specs.Trace.{TraceAnswer, traced}
+use Rattle.model.specs.Plan.{Plan}
+use Rattle.model.specs.PlanBytes.{planBytes}
+use Rattle.model.specs.Calls.{Writing, refuses, writes}
 
 -- "Numbers are decimal." Each turn takes a digit, so as many turns as the number are enough.
 abbrev pub digitsIn : ℕ → ℕ → List ℕ
@@ -59,6 +61,11 @@ traceLines t [] ds = []
 traceLines t (l ∷ ls) [] = []
 traceLines t (l ∷ ls) (d ∷ ds) = traceLine t l (d .ran) (d .gain) ++ traceLines (suc t) ls ds
 
-unfoldable pub traceText : List ℕ → TraceAnswer → List ℕ
-traceText labels (TraceAnswer.refused n) = refusedLine n
-traceText labels (traced ds) = traceHeader ++ traceLines 0 labels ds
+unfoldable pub traceText : List ℕ → Writing (List Done) → List ℕ
+traceText labels (refuses n) = refusedLine n
+traceText labels (writes ds) = traceHeader ++ traceLines 0 labels ds
+
+-- What a program that writes a plan writes: its bytes, or the line of the refusal.
+unfoldable pub planText : Writing Plan → List ℕ
+planText (refuses n) = refusedLine n
+planText (writes P) = planBytes P

@@ -38,12 +38,14 @@ impl Node {
     // The labels of a trace.
     pub const MAX_LABELS: usize = 4096;
 
-    // The least work memory, and the most bytes of a trace and of a certificate.
+    // The least work memory, and the most bytes of a trace, of a certificate and of a plan.
     pub const WORK_ROOM: usize = 65536;
 
     pub const TRACE_ROOM: usize = 12288;
 
     pub const CERTIFICATE_ROOM: usize = 15375;
+
+    pub const PLAN_ROOM: usize = 1045;
 
     // The policies.
     pub const EDF: u8 = 1;

@@ -14,15 +14,19 @@ use lib.Seq.{length-take-le, getD-set-same, getD-set-other}
 use lib.Pow.{pow-mono}
 use Rattle.model.specs.Limits.{maxStates}
 use Rattle.model.specs.Plan as model
-use Rattle.model.specs.Plan.{Arc, isArc, nextIn, rising, pairBelow, pairRises, unknown, width, mayFollow, arcInRange, inRange, firstFault, fault}
-use Rattle.model.proofs.Plan.{rising-last, ranged-first, arc-ranged}
+use Rattle.model.specs.Plan.{Arc, nextIn, rising, pairBelow, pairRises, unknown, width, mayFollow, arcInRange, inRange, firstFault, fault}
+use Rattle.model.proofs.Plan.{rising-last, ranged-first, arc-ranged, orElse, orElse-none, next-append}
 use Rattle.plan.specs.declared.Reading.{Reading}
+use Rattle.plan.specs.declared.Task.{Task}
 use Rattle.plan.specs.declared.Outcome.{Outcome}
 use Rattle.plan.specs.View.{taskView, tasksOf, labelCount, pairCount, arcAt, arcsBelow, arcsIn, nextOf, readingOf, fromLeast, faultFromLeast, answerWith, Within, Holds}
 
 -- as many tasks as the count says
+pub tasks-length : (ts : List Task) (n : ℕ) → n ≤ length ts → length (tasksOf ts n) ≡ n
+tasks-length ts n h = length-map (take n ts) taskView ∙ length-take-le n ts h
+
 pub task-count : (r : Reading) → Within r → length (tasksOf (r .tasks) (r .count)) ≡ r .count
-task-count r w = length-map (take (r .count) (r .tasks)) taskView ∙ length-take-le (r .count) (r .tasks) (omega arith)
+task-count r w = tasks-length (r .tasks) (r .count) (omega arith)
 
 -- entries without a next state add no arc
 arcs-above : (next : List ℕ) (n k : ℕ) → ((j : ℕ) → n ≤ j → getD next j 0 ≡ 0) → arcsBelow next (n + k) ≡ arcsBelow next n
@@ -116,24 +120,6 @@ module _ (next : List ℕ) (least k t : ℕ) (h : Holds next least) (rises : lea
       (ap (arcsBelow next) (sym (add-sub-of-le rises)) ∙ arcs-above next least (k - least) (h .above) ∙ sym (arcs-held next least h))
 
 -- ---- the next state
-
-abbrev orElse : Option ℕ → Option ℕ → Option ℕ
-orElse none b = b
-orElse (some t) b = some t
-
-orElse-none : (a : Option ℕ) → orElse a none ≡ a
-orElse-none none = refl
-orElse-none (some t) = refl
-
--- a label is looked up among the first arcs, then among the others
-next-append : (as′ bs : List Arc) (s l : ℕ) → nextIn (as′ ++ bs) s l ≡ orElse (nextIn as′ s l) (nextIn bs s l)
-next-append [] bs s l = refl
-next-append (a ∷ as′) bs s l = go (isArc s l a) (next-append as′ bs s l)
-  where
-    go : (b : Bool) → nextIn (as′ ++ bs) s l ≡ orElse (nextIn as′ s l) (nextIn bs s l) →
-        cond b (some (a .to)) (nextIn (as′ ++ bs) s l) ≡ orElse (cond b (some (a .to)) (nextIn as′ s l)) (nextIn bs s l)
-    go true h = refl
-    go false h = h
 
 -- a pair is told by its place
 pair-place : (n s l : ℕ) → l < labelCount → (eqb (n / labelCount) s && eqb (n % labelCount) l) ≡ eqb n (s * labelCount + l)

@@ -69,6 +69,11 @@ abbrev pub nextOf : ℕ → Option ℕ
 nextOf zero = none
 nextOf (suc t) = some t
 
+-- and back
+abbrev pub entryOf : Option ℕ → ℕ
+entryOf none = 0
+entryOf (some t) = suc t
+
 abbrev pub planOf : Plan → model.Plan
 planOf p = record { tasks = tasksOf (p .tasks) (p .count); policy = p .policy; states = p .states; arcs = arcsIn (p .next) }
 

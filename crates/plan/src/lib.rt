@@ -135,7 +135,7 @@ fn task_in_range(c: u8, d: u8, v: u8) -> bool
 }
 
 // How many labels a number of tasks has.
-fn labels(count: usize) -> usize
+pub fn labels(count: usize) -> usize
     requires { ⌜ count ≤ maxTasks ⌝ }
     ensures { λ r. ⌜ r ≡ 2 ^ count ⌝ }
 {
@@ -333,7 +333,7 @@ fn nothing_read() -> Reading
 }
 
 // A table without an arc.
-fn empty_table() -> [u8; PAIRS]
+pub fn empty_table() -> [u8; PAIRS]
     ensures { λ r. ⌜ r ≡ emptyTable ⌝ }
 {
     [0; PAIRS]

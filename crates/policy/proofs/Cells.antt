@@ -14,9 +14,9 @@ use Rattle.model.specs.Limits.{maxTasks, maxWindow}
 use Rattle.model.specs.Lists.{consIf, keep, flatMap, upFrom}
 use Rattle.model.specs.Plan.{Task}
 use Rattle.model.specs.Slot.{Job, noTask, canFinish, worked, tick, stays}
-use Rattle.model.proofs.Lists.{flatMap-append, getD-table, mem-of-upFrom, upFrom-append}
+use Rattle.model.proofs.Lists.{flatMap-append, getD-table, mem-of-upFrom, upFrom-append, flatMap-same, flatMap-none}
 use Rattle.policy.specs.View.{Tasks, cellCount, slotCells, taskIn, taskAt, leftIn, leftTable, jobIn, jobsIn, jobsOf, InRange, TasksInRange, Cells, Leaves, hopefulIn, hopeful, workedIn, stayingIn, aged}
-use Rattle.policy.proofs.Lists.{flatMap-same, flatMap-none, keep-flatMap, map-flatMap, flatMap-shift, map-shift, length-table}
+use Rattle.policy.proofs.Lists.{keep-flatMap, map-flatMap, flatMap-shift, map-shift, length-table}
 
 -- ---- ranges
 

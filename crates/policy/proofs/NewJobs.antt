@@ -15,10 +15,10 @@ use Rattle.model.specs.Limits.{maxTasks}
 use Rattle.model.specs.Lists.{consIf, flatMap, upFrom, bit}
 use Rattle.model.specs.Plan.{Task}
 use Rattle.model.specs.Slot.{Job, noTask, newJobs}
-use Rattle.model.proofs.Lists.{flatMap-append, getD-table, mem-of-upFrom, upFrom-append}
+use Rattle.model.proofs.Lists.{flatMap-append, getD-table, mem-of-upFrom, upFrom-append, flatMap-same, flatMap-none}
 use Rattle.words.proofs.Memory.{getD-skip}
 use Rattle.policy.specs.View.{Tasks, cellCount, slotCells, taskIn, taskAt, leftIn, jobsIn, jobsOf, newWork, joinedCells, TasksInRange, Cells, Leaves}
-use Rattle.policy.proofs.Lists.{flatMap-same, flatMap-none, flatMap-shift, length-table}
+use Rattle.policy.proofs.Lists.{flatMap-shift, length-table}
 use Rattle.policy.proofs.Cells.{FitCell, leaves-same, jobs-sized, cells-sized, work-within}
 
 -- the new jobs of the task at j, where the tasks are numbered from i

@@ -1,18 +1,18 @@
 -- What a plan gives the rules. Assumes nothing.
-use mathlib.Core.Path.{_≡_, sym, subst, _∙_}
+use mathlib.Core.Path.{_≡_, sym, subst}
 use mathlib.Core.List.{List}
 use mathlib.Core.Option.{some}
 use Prim.Native.Nat.{ℕ, _<_}
 use native.Mathlib.Nat.{lt-of-lt-of-le}
 use native.Mathlib.Omega.{arith}
-use lib.ListN.{length, take, length-map}
-use lib.Seq.{length-take-le}
+use lib.ListN.{length}
 use Rattle.model.specs.Plan as model
 use Rattle.model.specs.Plan.{nextIn, IsSound}
 use Rattle.model.specs.Limits.{maxStates}
 use Rattle.theory.proofs.Sound.{sound-plan, nextIn-arc}
 use Rattle.theory.proofs.Schedules.{task-sound}
-use Rattle.plan.specs.View.{taskView, tasksOf, arcsIn, StatesFit, Sized}
+use Rattle.plan.proofs.View.{tasks-length}
+use Rattle.plan.specs.View.{tasksOf, arcsIn, StatesFit, Sized}
 use Rattle.plan.specs.declared.Plan.{Plan}
 use Rattle.policy.specs.View.{TasksInRange}
 
@@ -34,4 +34,4 @@ states-fit P s next e = record { to = λ from l t h. fits from l t (subst (λ as
 
 -- it has as many tasks as its count says
 pub tasks-size : (p : Plan) → Sized p → length (tasksOf (p .tasks) (p .count)) ≡ p .count
-tasks-size p s = length-map (take (p .count) (p .tasks)) taskView ∙ length-take-le (p .count) (p .tasks) (omega (arith, s .fits, s .room))
+tasks-size p s = tasks-length (p .tasks) (p .count) (omega (arith, s .fits, s .room))

@@ -3,7 +3,7 @@ use plan::Fault;
 ghost use mathlib.Core.Path.{_≡_};
 ghost use Rattle.refusals.specs.Numbers.{refusalNumber};
 
-// The plan's author, the certificate's, the calling program, whoever lists releases.
+// The plan's author, the certificate's, the calling program, whoever lists releases, whoever asks for another plan.
 pub enum Refusal {
     Plan(Fault),
     TooManyNodes,
@@ -15,6 +15,13 @@ pub enum Refusal {
     ShortMemory,
     TooManyLabels,
     NotAdmitted,
+    BadGap,
+}
+
+// What a call that writes bytes tells: why it wrote none, or how many it wrote.
+pub enum Answer {
+    Refused(Refusal),
+    Written(usize),
 }
 
 impl Refusal {
@@ -33,6 +40,7 @@ impl Refusal {
             Refusal::ShortMemory => 11,
             Refusal::TooManyLabels => 12,
             Refusal::NotAdmitted => 13,
+            Refusal::BadGap => 14,
         }
     }
 }

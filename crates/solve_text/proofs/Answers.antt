@@ -8,12 +8,12 @@ use native.Mathlib.Omega.{arith}
 use mathlib.Core.Bool.{_&&_}
 use lib.Dec.{leb}
 use lib.ListN.{length}
-use Rattle.model.specs.Bytes.{workAfter}
+use Rattle.model.specs.Bytes.{workAfter, Put}
 use Rattle.model.specs.Limits.{workRoom, certificateRoom}
 use Rattle.model.specs.Solve.{SolveAnswer, refused, solvable, solve}
 use Rattle.model.specs.Text.{refusedLine}
-use Rattle.text.specs.Put.{Put}
-use Rattle.text.proofs.Put.{put-as, put-inside}
+use Rattle.words.proofs.Put.{put-as}
+use Rattle.text.proofs.Put.{put-inside}
 use Rattle.io.specs.Counts.{Counts}
 use Rattle.refusals.specs.Numbers.{refusalNumber}
 use Rattle.refusals.specs.declared.Refusal.{Refusal}

@@ -5,7 +5,7 @@ use Rattle.model.specs.Certificate.{Certificate, certificateBytes}
 use Rattle.model.specs.Plan.{Plan}
 use Rattle.model.specs.Solve.{Solved, SolveAnswer, refused, solvable}
 use Rattle.model.specs.Text.{refusedLine}
-use Rattle.text.specs.Put.{Put}
+use Rattle.model.specs.Bytes.{Put}
 
 -- a certificate of the plan
 pub record PutsCertificate (P : Plan) (before after : List ℕ) (r : ℕ) : Type 0 where

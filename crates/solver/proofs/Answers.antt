@@ -7,9 +7,8 @@ use Prim.Native.Nat.{ℕ, _≤_, _<_}
 use native.Mathlib.Omega.{arith}
 use lib.Dec.{leb}
 use lib.ListN.{length, take}
-use lib.Seq.{take-append-seam}
 use borrow.Author.Tests.{le-leb, lt-leb, le-ltb}
-use Rattle.model.specs.Bytes.{cleared, overwrite, workAfter}
+use Rattle.model.specs.Bytes.{cleared, workAfter}
 use Rattle.model.specs.Certificate.{readCertificate, certificateBytes}
 use Rattle.model.specs.Check as check-model
 use Rattle.model.specs.Check.{share, checkRead, checkPlan, check}
@@ -20,6 +19,7 @@ use Rattle.model.specs.Refusals.{tooManyNodes, shortMemory}
 use Rattle.model.specs.Solve.{SolveAnswer, refused, solvable, solvePlan, solve}
 use Rattle.theory.proofs.Accepted.{accepted-iff}
 use Rattle.theory.proofs.Claim.{check-claim}
+use Rattle.words.proofs.Memory.{overwrite-first}
 use Rattle.solver.specs.declared.Answer.{Answer}
 use Rattle.solver.specs.declared.Answer.the-variants.{Refused, Written}
 use Rattle.refusals.specs.declared.Refusal.the-variants.{ShortMemory}
@@ -49,11 +49,6 @@ module _ (P : Plan) (n : ℕ) (before after : List ℕ) (r : Answer) where
 
 -- ---- what is written is accepted
 
--- the bytes that were written stand first
-first-bytes : (m bs : List ℕ) → take (length bs) (overwrite m 0 bs) ≡ bs
-unfolding overwrite
-first-bytes m bs = take-append-seam bs _
-
 module _ (plan : List ℕ) (P : Plan) (read : readPlan plan ≡ sound P) (before after : List ℕ) (r : Answer) where
   -- of a plan that is not too large
   accepts : tooLarge P ≡ false → (w : Writes P before after r) → (lent : ℕ) → workRoom ≤ lent →
@@ -64,7 +59,7 @@ module _ (plan : List ℕ) (P : Plan) (read : readPlan plan ≡ sound P) (before
       let c = w .certificate in
       let counted = accepted-iff P c .0 (w .solved .accepted) .counted in
       ap (λ (b : Bool). cond b (check-model.refused shortMemory) (checkPlan (readPlan plan) (take (length (certificateBytes c)) after))) (le-ltb lent workRoom enough)
-      ∙ ap₂ checkPlan read (ap (take (length (certificateBytes c))) (w .bytes) ∙ first-bytes before (certificateBytes c))
+      ∙ ap₂ checkPlan read (ap (take (length (certificateBytes c))) (w .bytes) ∙ overwrite-first before (certificateBytes c))
       ∙ ap (λ (b : Bool). cond b (check-model.refused tooManyNodes) (checkRead P (readCertificate (certificateBytes c)))) fits
       ∙ ap (checkRead P) (w .solved .form) ∙ w .solved .accepted
       ∙ ap (λ (n : ℕ). share (c .p) (c .q) n (check-model.allowance (c .potentials))) counted

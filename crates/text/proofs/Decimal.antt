@@ -79,6 +79,10 @@ refused-length n =
       length-append (114 ∷ 101 ∷ 102 ∷ 117 ∷ 115 ∷ 101 ∷ 100 ∷ 32 ∷ []) (decimal n),
     )
 
+-- it is short
+pub refused-most : (n : ℕ) → n < 2 ^ 64 → length (refusedLine n) ≤ 29
+refused-most n h = omega (arith, refused-length n, decimal-length 19 n (omega arith))
+
 pub field-length : (n : ℕ) → length (field n) ≡ length (decimal n) + 1
 field-length n = length-append (decimal n) space
 

@@ -3,7 +3,7 @@ ghost use mathlib.Core.List.{_++_};
 ghost use Prim.Native.Nat.{_+_, _≤_};
 ghost use lib.ListN.{length};
 ghost use Rattle.model.specs.Text.{decimal, field, refusedLine, traceLine};
-ghost use Rattle.text.specs.Put.{Put};
+ghost use Rattle.model.specs.Bytes.{Put};
 
 // Writes some bytes at a place, and answers the place after them.
 pub fn put_bytes(out: &mut [u8], at: usize, bytes: &[u8]) -> usize

@@ -32,3 +32,8 @@ pub mod Fractions
 pub mod Circuits
 pub mod Settled
 pub mod Unique
+pub mod PlanRead
+pub mod PlanForm
+pub mod Automata
+pub mod GapRuns
+pub mod Gaps

@@ -13,14 +13,15 @@ use lib.Dec.{eqb, leb, ltb}
 use lib.IntN.{ℤ}
 use lib.ListN.{length, getD, drop, length-append, length-drop, List·getD-append}
 use lib.Pow.{pow-mono}
-use Rattle.model.specs.Limits.{maxTasks, maxStates, maxNodes, maxSteps, maxLabels, certificateRoom}
+use Rattle.model.specs.Limits.{maxTasks, maxStates, maxNodes, maxSteps, maxLabels, certificateRoom, planRoom}
 use Rattle.model.specs.Lists.{one}
 use Rattle.model.specs.Bytes.{number, signed, part}
 use Rattle.model.specs.Certificate.{Step, Certificate, Parsed, consParsed, has, readPotentials, readSteps, isEnd, withSteps, withPotentials, readCertificate}
 use Rattle.model.specs.Plan.{Plan, Arc, Reading, nothingRead, isZero, width, mayFollow, inRange, firstFault, fault, after, refusedOr, readFrom, readPlan, unknown, pairRises}
 use Rattle.model.specs.Refusals.{tooManyLabels, notAdmitted}
 use Rattle.model.specs.Schedule.{admits}
-use Rattle.model.specs.Trace.{TraceAnswer, traced, slots, traceRun}
+use Rattle.model.specs.Calls.{refuses, writes}
+use Rattle.model.specs.Trace.{slots, traceRun}
 use Rattle.model.proofs.Plan.{both, width-pos, readFrom-at, fault-none, Passes}
 use Rattle.theory.proofs.Reread.{cond-some, cons-some}
 use Rattle.theory.proofs.Sound.{ArcsRise, Before, Held, held-nothing, held-after, known-le}
@@ -31,10 +32,6 @@ labelCount = 2 ^ maxTasks
 
 abbrev pairCount : ℕ
 pairCount = maxStates * labelCount
-
--- the most bytes of a plan: four tasks, policy, states, an arc for each pair, and the end
-abbrev pub planBytes : ℕ
-planBytes = 4 * maxTasks + 2 + 2 + 4 * pairCount + 1
 
 -- the bytes of the commands read so far
 abbrev size : Reading → ℕ
@@ -60,7 +57,7 @@ rise-count a (b ∷ as′) k r h low =
     let rest : suc k + length (b ∷ as′) ≤ pairCount = rise-count b as′ (suc k) (r .1) (λ c m. h c (List·Memᴰ·tail m)) (omega arith) in
     omega arith
 
-arcs-few : (r : Reading) → Held r → length (r .arcs) ≤ pairCount
+pub arcs-few : (r : Reading) → Held r → length (r .arcs) ≤ pairCount
 arcs-few r h = go (r .arcs) (h .rise) each
   where
     each : (b : Arc) → List·Memᴰ b (r .arcs) → (place b < pairCount) × (b .label < labelCount)
@@ -75,7 +72,7 @@ arcs-few r h = go (r .arcs) (h .rise) each
     go (a ∷ as′) r e = omega (arith, rise-count a as′ 0 r e (omega arith))
 
 -- what is read is never longer than the longest plan
-size-most : (r : Reading) → Held r → size r ≤ planBytes
+size-most : (r : Reading) → Held r → size r ≤ planRoom
 size-most r h =
     omega (arith, h .tasksFit, arcs-few r h, one-le (not (isZero (r .policy))), one-le (not (isZero (r .states))), one-le (r .ended))
 
@@ -121,7 +118,7 @@ same-fault r m n c x y z hm hn =
     (le-ltb m (width c) (omega (arith, width-most c)) ∙ sym (le-ltb n (width c) (omega (arith, width-most c))))
 
 -- from a place on, bytes past the longest plan change nothing
-long-from : (n at : ℕ) (bs more : List ℕ) (r : Reading) → planBytes < at + n → at ≤ size r → Held r → planBytes + 4 ≤ length bs →
+long-from : (n at : ℕ) (bs more : List ℕ) (r : Reading) → planRoom < at + n → at ≤ size r → Held r → planRoom + 4 ≤ length bs →
     readFrom (drop at (bs ++ more)) r ≡ readFrom (drop at bs) r
 long-from zero at bs more r f a h l = absurd (omega (arith, size-most r h))
 long-from (suc n) at bs more r f a h l =
@@ -168,17 +165,17 @@ long-from (suc n) at bs more r f a h l =
         ∙ sym (ap (λ (m : ℕ). refusedOr m (readFrom (drop (at + width (getD bs at 0)) bs) next)) e)
 
 -- a plan's answer is settled four bytes past the longest plan
-pub long-plan : (bs more : List ℕ) → planBytes + 4 ≤ length bs → readPlan (bs ++ more) ≡ readPlan bs
+pub long-plan : (bs more : List ℕ) → planRoom + 4 ≤ length bs → readPlan (bs ++ more) ≡ readPlan bs
 unfolding readPlan
-long-plan bs more l = long-from (suc planBytes) 0 bs more nothingRead (omega arith) (omega arith) held-nothing l
+long-plan bs more l = long-from (suc planRoom) 0 bs more nothingRead (omega arith) (omega arith) held-nothing l
 
 -- labels past the most change nothing
 pub long-labels : (P : Plan) (ls more : List ℕ) → maxLabels < length ls → traceRun P (ls ++ more) ≡ traceRun P ls
 unfolding traceRun
 long-labels P ls more h = many (ls ++ more) (omega (arith, length-append ls more)) ∙ sym (many ls h)
   where
-    many : (l : List ℕ) → maxLabels < length l → traceRun P l ≡ TraceAnswer.refused tooManyLabels
-    many l h = ap (λ (b : Bool). cond b (TraceAnswer.refused tooManyLabels) (cond (admits P l) (traced (slots P [] l)) (TraceAnswer.refused notAdmitted))) (lt-ltb maxLabels (length l) h)
+    many : (l : List ℕ) → maxLabels < length l → traceRun P l ≡ refuses tooManyLabels
+    many l h = ap (λ (b : Bool). cond b (refuses tooManyLabels) (cond (admits P l) (writes (slots P [] l)) (refuses notAdmitted))) (lt-ltb maxLabels (length l) h)
 
 -- ---- certificates
 

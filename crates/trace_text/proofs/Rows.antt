@@ -7,13 +7,12 @@ use native.Mathlib.Nat.{add-zero}
 use native.Mathlib.Omega.{arith}
 use lib.ListN.{length, getD, take, drop, length-append, length-drop, drop-of-length-le}
 use lib.Seq.{drop-cons, drop-drop, getD-drop}
-use Rattle.model.specs.Bytes.{number, part, overwrite}
+use Rattle.model.specs.Bytes.{number, part, overwrite, Put}
 use Rattle.model.specs.Limits.{maxLabels}
 use Rattle.model.specs.Text.{traceLine}
 use Rattle.words.proofs.Memory.{part-length, overwrite-none, overwrite-join}
 use Rattle.words.proofs.Numbers.{AreBytes, number-lt}
 use Rattle.words.proofs.Words.{part-bytes}
-use Rattle.text.specs.Put.{Put}
 use Rattle.text.proofs.Decimal.{decimal-length, field-length, trace-line-length}
 use Rattle.trace_text.specs.Rows.{lineRoom, rowLines}
 

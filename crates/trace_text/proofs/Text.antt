@@ -17,16 +17,17 @@ use Rattle.model.specs.Plan.{Plan, PlanAnswer, faulty, sound, readPlan, IsSound
 use Rattle.model.specs.Schedule.{admits}
 use Rattle.model.specs.Slot.{Job, Done, slot}
 use Rattle.model.specs.Text.{refusedLine, traceHeader, traceLine, traceLines, traceText}
-use Rattle.model.specs.Trace.{TraceAnswer, traced, slots, trace, tracePlan, traceRun, traceBytes, outputAfter}
+use Rattle.model.specs.Calls.{Writing, refuses, writes, withPlan, outputAfter}
+use Rattle.model.specs.Trace.{slots, trace, traceRun, traceBytes}
 use Rattle.words.proofs.Numbers.{number-bytes, bytes-length}
 use Rattle.theory.proofs.Sound.{sound-plan}
 use Rattle.theory.proofs.Schedules.{task-sound}
 use Rattle.policy.proofs.Gain.{gain-most}
 use Rattle.refusals.specs.Numbers.{refusalNumber}
 use Rattle.refusals.specs.declared.Refusal.{Refusal}
-use Rattle.tracer.specs.declared.Answer.the-variants as Answer
-use Rattle.tracer.specs.declared.Answer.the-variants.{Refused}
-use Rattle.tracer.specs.Promise.{Told}
+use Rattle.refusals.specs.declared.Answer.the-variants as Answer
+use Rattle.refusals.specs.declared.Answer.the-variants.{Refused}
+use Rattle.refusals.specs.Told.{Told}
 use Rattle.tracer.proofs.Slots.{slots-length}
 use Rattle.trace_text.specs.Rows.{rowLines}
 
@@ -67,17 +68,17 @@ pub record Written (plan labels : List ℕ) (ds : List Done) : Type 0 where
   pub lines : (rest : List ℕ) → rowLines 0 labels (traceBytes ds ++ rest) ≡ traceLines 0 labels ds
 
 -- a trace that the definition gives was written so
-pub traced-written : (plan labels : List ℕ) (lent : ℕ) (ds : List Done) → trace plan labels lent ≡ traced ds → Written plan labels ds
+pub traced-written : (plan labels : List ℕ) (lent : ℕ) (ds : List Done) → trace plan labels lent ≡ writes ds → Written plan labels ds
 unfolding trace traceRun
 traced-written plan labels lent ds h = by-room (ltb lent traceRoom) (readPlan plan) refl h
   where
     Never : Type 0
     Never = ⊥
 
-    not-both : {n : ℕ} → TraceAnswer.refused n ≡ traced ds → Never
+    not-both : {n : ℕ} → refuses n ≡ writes ds → Never
     not-both e = let z : _≡_ {A = ℕ} 0 1 = cc in omega arith
 
-    by-admitted : (P : Plan) → IsSound P → length labels ≤ maxLabels → (b : Bool) → cond b (traced (slots P [] labels)) (TraceAnswer.refused notAdmitted) ≡ traced ds →
+    by-admitted : (P : Plan) → IsSound P → length labels ≤ maxLabels → (b : Bool) → cond b (writes (slots P [] labels)) (refuses notAdmitted) ≡ writes ds →
         Written plan labels ds
     by-admitted P s f true e = record {
       few = f;
@@ -90,16 +91,16 @@ traced-written plan labels lent ds h = by-room (ltb lent traceRoom) (readPlan pl
     by-admitted P s f false e = absurd (not-both e)
 
     by-count : (P : Plan) → IsSound P → (b : Bool) → ltb maxLabels (length labels) ≡ b →
-        cond b (TraceAnswer.refused tooManyLabels) (cond (admits P labels) (traced (slots P [] labels)) (TraceAnswer.refused notAdmitted)) ≡ traced ds →
+        cond b (refuses tooManyLabels) (cond (admits P labels) (writes (slots P [] labels)) (refuses notAdmitted)) ≡ writes ds →
         Written plan labels ds
     by-count P s true k e = absurd (not-both e)
     by-count P s false k e = by-admitted P s (ltb-false _ _ k) (admits P labels) e
 
-    by-plan : (a : PlanAnswer) → readPlan plan ≡ a → tracePlan a labels ≡ traced ds → Written plan labels ds
+    by-plan : (a : PlanAnswer) → readPlan plan ≡ a → withPlan a (λ P. traceRun P labels) ≡ writes ds → Written plan labels ds
     by-plan (faulty n) k e = absurd (not-both e)
     by-plan (sound P) k e = by-count P (record { bytes = plan; read = k }) (ltb maxLabels (length labels)) refl e
 
-    by-room : (b : Bool) (a : PlanAnswer) → readPlan plan ≡ a → cond b (TraceAnswer.refused shortMemory) (tracePlan a labels) ≡ traced ds → Written plan labels ds
+    by-room : (b : Bool) (a : PlanAnswer) → readPlan plan ≡ a → cond b (refuses shortMemory) (withPlan a (λ P. traceRun P labels)) ≡ writes ds → Written plan labels ds
     by-room true a k e = absurd (not-both e)
     by-room false a k e = by-plan a k e
 
@@ -109,29 +110,29 @@ module _ (plan labels before after : List ℕ) (lent : ℕ) (same : lent ≡ tra
   at-room = ap (trace plan labels) same
 
   -- a refusal is its line
-  pub refusal-text : (r : Refusal) → Told (trace plan labels lent) before after (Refused r) →
+  pub refusal-text : (r : Refusal) → Told traceBytes (trace plan labels lent) before after (Refused r) →
       refusedLine (refusalNumber r) ≡ traceText labels (trace plan labels traceRoom)
   unfolding traceText
   refusal-text r h = go (trace plan labels lent) refl h ∙ ap (traceText labels) at-room
     where
-      go : (a : TraceAnswer) → trace plan labels lent ≡ a → Told a before after (Refused r) → refusedLine (refusalNumber r) ≡ traceText labels (trace plan labels lent)
-      go (TraceAnswer.refused n) e t =
+      go : (a : Writing (List Done)) → trace plan labels lent ≡ a → Told traceBytes a before after (Refused r) → refusedLine (refusalNumber r) ≡ traceText labels (trace plan labels lent)
+      go (refuses n) e t =
           let same-number : refusalNumber r ≡ n = let k = t .answer in cc in
           ap refusedLine same-number ∙ sym (ap (traceText labels) e)
-      go (traced ds) e t = let k = t .answer in let z : _≡_ {A = ℕ} 0 1 = cc in absurd (omega arith)
+      go (writes ds) e t = let k = t .answer in let z : _≡_ {A = ℕ} 0 1 = cc in absurd (omega arith)
 
   -- a trace that was written is its table
   pub record Table : Type 0 where
     pub few : length labels ≤ maxLabels
     pub text : traceHeader ++ rowLines 0 labels after ≡ traceText labels (trace plan labels traceRoom)
 
-  pub table-text : (n : ℕ) → Told (trace plan labels lent) before after (Answer.Written n) → Table
+  pub table-text : (n : ℕ) → Told traceBytes (trace plan labels lent) before after (Answer.Written n) → Table
   unfolding traceText outputAfter overwrite
   table-text n h = go (trace plan labels lent) refl h
     where
-      go : (a : TraceAnswer) → trace plan labels lent ≡ a → Told a before after (Answer.Written n) → Table
-      go (TraceAnswer.refused m) e t = let k = t .answer in let z : _≡_ {A = ℕ} 0 1 = cc in absurd (omega arith)
-      go (traced ds) e t =
+      go : (a : Writing (List Done)) → trace plan labels lent ≡ a → Told traceBytes a before after (Answer.Written n) → Table
+      go (refuses m) e t = let k = t .answer in let z : _≡_ {A = ℕ} 0 1 = cc in absurd (omega arith)
+      go (writes ds) e t =
           let w = traced-written plan labels lent ds e in
           record {
             few = w .few;

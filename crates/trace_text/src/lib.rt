@@ -7,9 +7,9 @@ ghost use Rattle.io.specs.Counts.{Counts};
 ghost use Rattle.model.specs.Limits.{maxLabels, traceRoom};
 ghost use Rattle.model.specs.Text.{traceHeader, traceText};
 ghost use Rattle.model.specs.Trace as model-trace;
-ghost use Rattle.text.specs.Put.{Put};
+ghost use Rattle.model.specs.Bytes.{Put};
 ghost use Rattle.trace_text.specs.Rows.{lineRoom, textRoom, rowLines};
-use tracer::Answer;
+use refusals::Answer;
 
 // Writes the line of each label from a place on, and answers the place after them.
 fn put_rows(out: &mut [u8], at: usize, labels: &[u8], rows: &[u8]) -> usize

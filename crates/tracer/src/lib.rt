@@ -3,6 +3,7 @@ use node::Node;
 use plan::Outcome;
 use plan::Plan;
 use policy::Rules;
+use refusals::Answer;
 use refusals::Refusal;
 ghost use mathlib.Core.Path.{_≡_};
 ghost use mathlib.Core.List.{[], _∷_};
@@ -15,18 +16,13 @@ ghost use Rattle.model.specs.Schedule.{admits};
 ghost use Rattle.model.specs.Trace as model-trace;
 ghost use Rattle.plan.specs.View.{arcsIn, planOf, Sized, StatesFit};
 ghost use Rattle.policy.specs.View.{tasksIn, Ruled};
-ghost use Rattle.tracer.specs.Promise.{Told, Traces};
+ghost use Rattle.refusals.specs.Told.{Told};
+ghost use Rattle.tracer.specs.Promise.{Traces};
 
 // The most that a trace takes, and the most labels.
 pub const TRACE_ROOM: usize = Node::TRACE_ROOM;
 
 pub const MAX_LABELS: usize = Node::MAX_LABELS;
-
-// A trace that is written has so many bytes.
-pub enum Answer {
-    Refused(Refusal),
-    Written(usize),
-}
 
 // Whether a plan with this table admits the labels.
 fn admitted(next: &[u8; plan::PAIRS], labels: &[u8]) -> bool
@@ -73,7 +69,7 @@ fn write_slots(rules: Rules, labels: &[u8], out: &mut [u8])
 // The trace of a sound plan.
 fn trace_plan(plan: Plan, labels: &[u8], out: &mut [u8]) -> Answer
     requires { ⌜ Sized plan × model.IsSound (planOf plan) × (traceRoom ≤ length (now out)) ⌝ }
-    ensures { λ r. ⌜ Told (model-trace.traceRun (planOf plan) (now (labels .entry))) (now (out .entry)) (now (out .exit)) r ⌝ }
+    ensures { λ r. ⌜ Told model-trace.traceBytes (model-trace.traceRun (planOf plan) (now (labels .entry))) (now (out .entry)) (now (out .exit)) r ⌝ }
 {
     let n = labels.len();
     let next = plan.next;

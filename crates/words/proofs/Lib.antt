@@ -4,3 +4,5 @@ pub mod Memory
 pub mod Numbers
 pub mod Signed
 pub mod Words
+pub mod Tables
+pub mod Put

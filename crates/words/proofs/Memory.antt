@@ -33,6 +33,11 @@ unfolding overwrite
 overwrite-all m bs same = let h : length m ≤ 0 + length bs = omega arith in rw (drop-of-length-le m h) (append-nil bs)
 
 -- zeros as many as there are bytes
+-- what is written in front stands in front
+pub overwrite-first : (m bs : List ℕ) → take (length bs) (overwrite m 0 bs) ≡ bs
+unfolding overwrite
+overwrite-first m bs = take-append-seam bs (drop (0 + length bs) m)
+
 pub overwrite-zeros : (m : List ℕ) → overwrite m 0 (replicate (length m) 0) ≡ cleared m
 overwrite-zeros m = overwrite-all m (replicate (length m) 0) (length-replicate (length m) 0)
 

@@ -51,6 +51,9 @@ check-case-requires c κs = search needs
 solve-case-requires : tie.Need-solve-case-requires Inv-loop μ-loop
 solve-case-requires c κs = search needs
 
+gap-case-requires : tie.Need-gap-case-requires Inv-loop μ-loop
+gap-case-requires c κs = search needs
+
 slice-aggregate-write-all : tie.Need-slice-aggregate-write-all Inv-loop μ-loop
 slice-aggregate-write-all c = search needs
 
@@ -89,6 +92,7 @@ main-spec =
     trace-case-requires
     check-case-requires
     solve-case-requires
+    gap-case-requires
     slice-aggregate-write-all
     write-all-requires
     sub-left

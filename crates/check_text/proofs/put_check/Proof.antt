@@ -6,7 +6,8 @@ use Rattle.model.specs.Text.{refusedLine, checkText}
 use Rattle.checker.specs.declared.Answer.{Answer}
 use Rattle.checker.specs.Promise.{answerOf}
 use Rattle.text.proofs.Decimal.{refused-length, decimal-length}
-use Rattle.text.proofs.Put.{put-as, counted}
+use Rattle.words.proofs.Put.{put-as}
+use Rattle.text.proofs.Put.{counted}
 use borrow.Author.Needs.{needs}
 use Rattle.check_text.proofs.put_check.Statement.{statement}
 use Rattle.check_text.proofs.put_check.Tie as tie

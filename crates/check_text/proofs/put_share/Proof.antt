@@ -7,7 +7,7 @@ use lib.ListN.{length, length-append}
 use Rattle.model.specs.Check.{thousandths}
 use Rattle.model.specs.Text.{field, thousandthsText, checkText}
 use Rattle.text.proofs.Decimal.{decimal-length, field-length, three-length}
-use Rattle.text.proofs.Put.{put-join}
+use Rattle.words.proofs.Put.{put-join}
 use borrow.Author.Needs.{needs}
 use Rattle.check_text.proofs.put_share.Statement.{statement}
 use Rattle.check_text.proofs.put_share.Tie as tie

@@ -4,7 +4,7 @@ use native.Mathlib.Omega.{arith}
 use Rattle.model.specs.Text.{thousandthsText}
 use Rattle.fraction.specs.View.{permilleOf}
 use Rattle.text.proofs.Decimal.{decimal-length}
-use Rattle.text.proofs.Put.{put-as}
+use Rattle.words.proofs.Put.{put-as}
 use borrow.Author.Needs.{needs}
 use Rattle.check_text.proofs.put_thousandths.Statement.{statement}
 use Rattle.check_text.proofs.put_thousandths.Tie as tie

@@ -8,7 +8,7 @@ use Rattle.model.specs.Limits.{maxTasks}
 use Rattle.model.specs.Lists.{upFrom}
 use Rattle.words.proofs.Memory.{overwrite-none}
 use Rattle.policy.specs.View.{cellCount, stayingIn, aged}
-use Rattle.policy.proofs.Lists.{written-more, written-all}
+use Rattle.words.proofs.Tables.{written-more, written-all}
 use borrow.Author.Needs.{needs}
 use native.Mathlib.Omega.{arith}
 use Rattle.policy.proofs.age.Statement.{statement}

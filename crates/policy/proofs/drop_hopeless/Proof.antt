@@ -7,7 +7,7 @@ use Rattle.model.specs.Bytes.{overwrite}
 use Rattle.model.specs.Lists.{upFrom}
 use Rattle.words.proofs.Memory.{overwrite-none}
 use Rattle.policy.specs.View.{slotCells, hopefulIn, hopeful}
-use Rattle.policy.proofs.Lists.{written-more, written-all}
+use Rattle.words.proofs.Tables.{written-more, written-all}
 use borrow.Author.Needs.{needs}
 use native.Mathlib.Omega.{arith}
 use Rattle.policy.proofs.drop_hopeless.Statement.{statement}

@@ -10,7 +10,8 @@ use Rattle.model.specs.Lists.{upFrom}
 use Rattle.words.proofs.Memory.{overwrite-none}
 use Rattle.plan.specs.View.{tasksOf}
 use Rattle.policy.specs.View.{cellCount, slotCells, newWork, joinedCells as joinedCells}
-use Rattle.policy.proofs.Lists.{written-more, write-end, length-table}
+use Rattle.policy.proofs.Lists.{write-end, length-table}
+use Rattle.words.proofs.Tables.{written-more}
 use borrow.Author.Needs.{needs}
 use native.Mathlib.Omega.{arith}
 use Rattle.policy.proofs.join.Statement.{statement}

@@ -8,7 +8,7 @@ use Rattle.model.specs.Lists.{upFrom}
 use Rattle.words.proofs.Memory.{overwrite-none}
 use Rattle.plan.specs.View.{tasksOf}
 use Rattle.policy.specs.View.{slotCells, leftIn}
-use Rattle.policy.proofs.Lists.{written-more, written-all}
+use Rattle.words.proofs.Tables.{written-more, written-all}
 use native.Mathlib.Omega.{arith}
 use Rattle.policy.proofs.left_table.Statement.{statement}
 use Rattle.policy.proofs.left_table.Tie as tie

@@ -1,20 +1,13 @@
 -- `solve_text::put_certificate` meets its contract: a refusal is its line, and a certificate is written already. Assumes nothing.
 use mathlib.Core.Path.{ap}
-use Prim.Native.Nat.{ℕ, _^_, _≤_, _<_}
 use native.Mathlib.Omega.{arith}
-use lib.ListN.{length}
-use Rattle.model.specs.Limits.{certificateRoom}
 use Rattle.model.specs.Text.{refusedLine}
-use Rattle.text.proofs.Decimal.{refused-length, decimal-length}
-use Rattle.text.proofs.Put.{put-as}
+use Rattle.text.proofs.Decimal.{refused-most}
+use Rattle.words.proofs.Put.{put-as}
 use Rattle.solve_text.proofs.Answers.{puts-refusal, puts-certificate}
 use borrow.Author.Needs.{needs}
 use Rattle.solve_text.proofs.put_certificate.Statement.{statement}
 use Rattle.solve_text.proofs.put_certificate.Tie as tie
-
--- the line of a refusal fits
-refusal-fits : (n k : ℕ) → n < 2 ^ 64 → certificateRoom ≤ k → length (refusedLine n) ≤ k
-refusal-fits n k h room = omega (arith, refused-length n, decimal-length 19 n (omega arith))
 
 solve-requires : tie.Need-solve-requires
 solve-requires c κs = search needs
@@ -28,7 +21,7 @@ number-requires c κs = search needs
 put-refusal-requires : tie.Need-put-refusal-requires
 put-refusal-requires c κs =
     let start = c .before .before .before .before .before .before .before .before .before .before .before .before .before .before .before in
-    refusal-fits _ _ (omega arith) (omega (arith, start .pre))
+    omega (arith, start .pre, refused-most (c .number .result) (omega arith))
 
 enum-known-n : tie.Need-enum-known-n
 enum-known-n c = search needs

@@ -1,7 +1,7 @@
 -- `text::put_field` meets its contract: a number, then a space.
 -- Assumes nothing.
 use native.Mathlib.Omega.{arith}
-use Rattle.text.proofs.Put.{put-join}
+use Rattle.words.proofs.Put.{put-join}
 use Rattle.text.proofs.Decimal.{field-length}
 use borrow.Author.Needs.{needs}
 use Rattle.text.proofs.put_field.Statement.{statement}

@@ -8,9 +8,8 @@ use native.Mathlib.Nat.{le-refl}
 use native.Mathlib.Omega.{arith}
 use lib.ListN.{length, take}
 use lib.Seq.{take-take}
-use Rattle.model.specs.Bytes.{overwrite, part}
+use Rattle.model.specs.Bytes.{overwrite, part, Put}
 use Rattle.model.specs.Text.{decimal}
-use Rattle.text.specs.Put.{Put}
 use Rattle.text.proofs.Decimal.{digits-decimal}
 use Rattle.text.proofs.put_number.Statement.{statement}
 use Rattle.text.proofs.put_number.Tie as tie

@@ -4,7 +4,7 @@ use borrow.Author.Needs.{needs}
 use native.Mathlib.Omega.{arith}
 use Rattle.model.specs.Text.{refusedLine}
 use Rattle.text.proofs.Decimal.{refused-length}
-use Rattle.text.proofs.Put.{put-join}
+use Rattle.words.proofs.Put.{put-join}
 use Rattle.text.proofs.put_refusal.Statement.{statement}
 use Rattle.text.proofs.put_refusal.Tie as tie
 

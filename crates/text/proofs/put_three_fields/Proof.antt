@@ -3,7 +3,7 @@ use native.Mathlib.Omega.{arith}
 use lib.ListN.{length-append}
 use Rattle.model.specs.Text.{field}
 use Rattle.text.proofs.Decimal.{three-length}
-use Rattle.text.proofs.Put.{put-join}
+use Rattle.words.proofs.Put.{put-join}
 use borrow.Author.Needs.{needs}
 use Rattle.text.proofs.put_three_fields.Statement.{statement}
 use Rattle.text.proofs.put_three_fields.Tie as tie

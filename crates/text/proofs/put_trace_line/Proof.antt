@@ -5,7 +5,7 @@ use native.Mathlib.Omega.{arith}
 use lib.ListN.{length-append}
 use Rattle.model.specs.Text.{decimal, field, traceLine}
 use Rattle.text.proofs.Decimal.{three-length, trace-line-length}
-use Rattle.text.proofs.Put.{put-join}
+use Rattle.words.proofs.Put.{put-join}
 use borrow.Author.Needs.{needs}
 use Rattle.text.proofs.put_trace_line.Statement.{statement}
 use Rattle.text.proofs.put_trace_line.Tie as tie

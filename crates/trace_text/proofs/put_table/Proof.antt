@@ -2,7 +2,7 @@
 -- Assumes nothing.
 use denote.Ref.{now}
 use native.Mathlib.Omega.{arith}
-use Rattle.text.proofs.Put.{put-join}
+use Rattle.words.proofs.Put.{put-join}
 use Rattle.trace_text.proofs.Rows.{rows-fit}
 use borrow.Author.Needs.{needs}
 use Rattle.trace_text.proofs.put_table.Statement.{statement}

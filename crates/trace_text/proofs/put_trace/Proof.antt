@@ -1,18 +1,18 @@
 -- `trace_text::put_trace` meets its contract: a refusal is its line, a trace its table.
 -- Assumes nothing.
-use mathlib.Core.Path.{_≡_, sym, ap, _∙_, subst}
-use mathlib.Core.List.{List}
-use Prim.Native.Nat.{ℕ}
+use mathlib.Core.Path.{_≡_, sym, ap, _∙_}
 use denote.Ref.{now}
 use native.Mathlib.Omega.{arith}
 use lib.ListN.{length}
 use Rattle.model.specs.Text.{refusedLine}
-use Rattle.text.proofs.Put.{put-as, counted}
+use Rattle.words.proofs.Put.{put-as}
+use Rattle.text.proofs.Put.{counted}
 use Rattle.text.proofs.Decimal.{refused-length, decimal-length}
 use Rattle.model.specs.Limits.{traceRoom}
-use Rattle.model.specs.Trace.{TraceAnswer, trace}
-use Rattle.tracer.specs.declared.Answer.{Answer}
-use Rattle.tracer.specs.Promise.{Told}
+use Rattle.model.specs.Trace.{trace, traceBytes}
+use Rattle.refusals.specs.declared.Answer.{Answer}
+use Rattle.refusals.specs.Told.{Told}
+use Rattle.refusals.proofs.Told.{told-as}
 use Rattle.trace_text.proofs.Text.{refusal-text, table-text}
 use borrow.Author.Needs.{needs}
 use Rattle.trace_text.proofs.put_trace.Statement.{statement}
@@ -22,14 +22,11 @@ use Rattle.trace_text.proofs.put_trace.Tie as tie
 room : (t : tie.After-trace) → length (t .before .before .rows-room .result) ≡ traceRoom
 room t = sym (t .before .before .rows-room .ensures)
 
-as-answer : {t : TraceAnswer} {m n : List ℕ} {a b : Answer} → a ≡ b → Told t m n a → Told t m n b
-as-answer {t} {m} {n} e h = subst (λ (r : Answer). Told t m n r) e h
-
 -- what the trace told, by the answer that it is
 told : (t : tie.After-trace) {a : Answer} → t .trace .result ≡ a →
-    Told (trace (now (t .before .before .before .before .before .before .args .plan)) (now (t .before .before .before .before .before .before .args .labels)) (length (t .before .before .rows-room .result)))
+    Told traceBytes (trace (now (t .before .before .before .before .before .before .args .plan)) (now (t .before .before .before .before .before .before .args .labels)) (length (t .before .before .rows-room .result)))
     (t .before .before .rows-room .result) (t .trace .last .1 .1 .0) a
-told t e = as-answer e (t .trace .ensures)
+told t e = told-as e (t .trace .ensures)
 
 rows-room-requires : tie.Need-rows-room-requires
 rows-room-requires c κs = search needs

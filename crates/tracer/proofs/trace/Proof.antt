@@ -4,13 +4,14 @@ use denote.Ref.{now}
 use native.Mathlib.Omega.{arith}
 use Rattle.plan.specs.View.{planOf}
 use Rattle.plan.proofs.View.{read-as}
-use Rattle.tracer.proofs.Answers.{told-by, told-refusal, short, by-plan}
+use Rattle.refusals.proofs.Told.{told-by, told-refusal}
+use Rattle.tracer.proofs.Answers.{short, by-plan}
 use borrow.Author.Needs.{needs}
 use Rattle.tracer.proofs.trace.Statement.{statement}
 use Rattle.tracer.proofs.trace.Tie as tie
 
 returns : tie.Need-returns
-returns c = told-refusal _ _ _ (short _ _ _ (c .if1 .taken))
+returns c = told-refusal _ _ _ _ (short _ _ _ (c .if1 .taken))
 
 read-requires : tie.Need-read-requires
 read-requires c κs = search needs
@@ -29,7 +30,7 @@ trace-plan-requires c κs =
 returns-2 : tie.Need-returns-2
 returns-2 c =
     let r = c .before .before .before .before in
-    told-refusal _ _ _ (by-plan _ _ _ _ (r .before .if1 .left) (read-as (planOf (r .read .result .plan)) (r .read .ensures .1) (c .before .outcome .given .1)))
+    told-refusal _ _ _ _ (by-plan _ _ _ _ (r .before .if1 .left) (read-as (planOf (r .read .result .plan)) (r .read .ensures .1) (c .before .outcome .given .1)))
 
 same-length : tie.Need-same-length
 same-length c = search needs

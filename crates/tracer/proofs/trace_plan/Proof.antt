@@ -4,14 +4,15 @@ use mathlib.Core.Path.{refl, sym, _∙_}
 use denote.Ref.{now}
 use borrow.Author.Tests.{not-true, not-false}
 use Rattle.plan.specs.View.{planOf}
-use Rattle.tracer.proofs.Answers.{told-refusal, told-trace, too-many, not-admitted, all-admitted}
+use Rattle.refusals.proofs.Told.{told-refusal}
+use Rattle.tracer.proofs.Answers.{told-trace, too-many, not-admitted, all-admitted}
 use Rattle.policy.proofs.Plans.{states-fit}
 use borrow.Author.Needs.{needs}
 use Rattle.tracer.proofs.trace_plan.Statement.{statement}
 use Rattle.tracer.proofs.trace_plan.Tie as tie
 
 returns : tie.Need-returns
-returns c = told-refusal _ _ _ (too-many _ _ (c .if1 .taken))
+returns c = told-refusal _ _ _ _ (too-many _ _ (c .if1 .taken))
 
 admitted-requires : tie.Need-admitted-requires
 admitted-requires c κs = let s = c .before .before .before .before .before in states-fit (planOf (s .args .plan)) (s .pre .1) _ refl
@@ -19,7 +20,7 @@ admitted-requires c κs = let s = c .before .before .before .before .before in s
 returns-2 : tie.Need-returns-2
 returns-2 c =
     let a = c .before in
-    told-refusal _ _ _ (not-admitted _ _ (a .before .before .if1 .left) (sym (a .admitted .ensures _ refl) ∙ not-true _ (c .if2 .taken)))
+    told-refusal _ _ _ _ (not-admitted _ _ (a .before .before .if1 .left) (sym (a .admitted .ensures _ refl) ∙ not-true _ (c .if2 .taken)))
 
 rules-of-requires : tie.Need-rules-of-requires
 rules-of-requires c κs =

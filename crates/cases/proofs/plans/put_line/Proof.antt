@@ -8,7 +8,7 @@ use Rattle.model.specs.Plan.{PlanAnswer, Plan}
 use Rattle.model.specs.Text.{refusedLine}
 use Rattle.plan.specs.declared.Outcome.{Outcome}
 use Rattle.plan.specs.View.{answerWith, planOf}
-use Rattle.text.specs.Put.{Put}
+use Rattle.model.specs.Bytes.{Put}
 use Rattle.text.proofs.Put.{counted}
 use Rattle.text.proofs.Decimal.{refused-length, decimal-length}
 use Rattle.cases.specs.Lines.{planLine}

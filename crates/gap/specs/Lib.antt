@@ -1,0 +1,2 @@
+pub mod Automaton
+pub mod Promise

@@ -1,0 +1,55 @@
+-- Plans that are written: the bytes of a plan, and the arcs of an automaton.
+use mathlib.Core.Path.{_≡_}
+use Prim.Native.Nat.{ℕ, _^_, _≤_, _<_}
+use mathlib.Core.List.{List, [], _∷_, _++_}
+use mathlib.Core.Option.{Option, none, some}
+use lib.ListN.{length, getD}
+use Rattle.model.specs.Limits.{planRoom, valueWidth}
+use Rattle.model.specs.Lists.{flatMap, upFrom}
+use Rattle.model.specs.Bytes.{bytes}
+use Rattle.model.specs.Plan.{Task, Arc, Plan, sound, readPlan, IsSound}
+
+-- ---- the bytes
+
+-- "`01` C D V"
+abbrev pub taskBytes : Task → List ℕ
+taskBytes t = 0x01 ∷ t .work ∷ t .window ∷ bytes valueWidth (t .value)
+
+-- "`04` S L T"
+abbrev pub arcBytes : Arc → List ℕ
+arcBytes a = 0x04 ∷ a .from ∷ a .label ∷ a .to ∷ []
+
+-- "`01` C D V .., one to four times ..; `02` policy ..; `03` M states ..; `04` S L T, any number ..; `05` end"
+unfoldable pub planBytes : Plan → List ℕ
+planBytes P =
+    flatMap taskBytes (P .tasks) ++ 0x02 ∷ P .policy ∷ 0x03 ∷ P .states ∷ (flatMap arcBytes (P .arcs) ++ (0x05 ∷ []))
+
+-- The form of a plan: its bytes are read as it, they are no longer than "the longest plan of the edition", and no other bytes are it.
+pub record WrittenForm (P : Plan) : Type 0 where
+  pub taken : readPlan (planBytes P) ≡ sound P
+  pub fits : length (planBytes P) ≤ planRoom
+  pub only : (bs : List ℕ) → ((i : ℕ) → getD bs i 0 < 256) → readPlan bs ≡ sound P → bs ≡ planBytes P
+
+-- every sound plan has that form
+abbrev pub PlansAreWritten : Type 0
+PlansAreWritten = (P : Plan) → IsSound P → WrittenForm P
+
+-- ---- an automaton
+
+-- the arc of a pair, by where it leads: "A pair not given is not admitted."
+abbrev pub givenArc : ℕ → ℕ → Option ℕ → List Arc
+givenArc s l none = []
+givenArc s l (some t) = record { from = s; label = l; to = t } ∷ []
+
+-- the arcs of so many states over so many tasks, by the next state of a state and a label; "pairs (S, L) strictly rising"
+unfoldable pub arcsOf : ℕ → ℕ → (ℕ → ℕ → Option ℕ) → List Arc
+arcsOf states count next =
+    flatMap (λ s. flatMap (λ l. givenArc s l (next s l)) (upFrom 0 (2 ^ count))) (upFrom 0 states)
+
+-- ---- a plan that is written from another
+
+-- these bytes are the plan Q: "that plan's tasks and policy", in "plan bytes that the reader takes"
+pub record WrittenFrom (P : Plan) (bs : List ℕ) (Q : Plan) : Type 0 where
+  pub taken : readPlan bs ≡ sound Q
+  pub tasks : Q .tasks ≡ P .tasks
+  pub policy : Q .policy ≡ P .policy

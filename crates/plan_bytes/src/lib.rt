@@ -1,0 +1,90 @@
+// Plans written into lent bytes.
+use node::Node;
+use plan::Plan;
+use plan::Task;
+ghost use mathlib.Core.Path.{_≡_};
+ghost use Prim.Native.Nat.{_+_, _*_, _≤_, _<_};
+ghost use lib.ListN.{length};
+ghost use Rattle.model.specs.Bytes.{overwrite, Put};
+ghost use Rattle.model.specs.Limits.{maxTasks, planRoom};
+ghost use Rattle.model.specs.Lists.{flatMap};
+ghost use Rattle.model.specs.PlanBytes.{taskBytes, arcBytes, planBytes};
+ghost use Rattle.plan.specs.View.{taskView, tasksOf, pairCount, arcAt, arcsIn, planOf, Sized};
+ghost use Rattle.plan_bytes.specs.Sizes.{taskSize, arcSize};
+
+// The most bytes of a plan.
+pub const PLAN_ROOM: usize = Node::PLAN_ROOM;
+
+// Put four bytes, and gives the place after them.
+fn write_four(out: &mut [u8], at: usize, bytes: [u8; 4]) -> usize
+    requires { ⌜ at + 4 ≤ length (now out) ⌝ }
+    ensures { λ end. ⌜ Put (now (out .entry)) (now (out .exit)) at bytes end ⌝ }
+{
+    words::copy(&bytes, 0, out, at, 4);
+    at + 4
+}
+
+// Put a task; its value is written here alone.
+fn write_task(out: &mut [u8], at: usize, t: Task) -> usize
+    requires { ⌜ at + taskSize ≤ length (now out) ⌝ }
+    ensures { λ end. ⌜ Put (now (out .entry)) (now (out .exit)) at (taskBytes (taskView t)) end ⌝ }
+{
+    write_four(out, at, [0x01, t.work, t.window, t.value])
+}
+
+// Put the first `count` tasks.
+fn write_tasks(out: &mut [u8], tasks: [Task; Node::MAX_TASKS], count: usize) -> usize
+    requires { ⌜ (count ≤ maxTasks) × (taskSize * count ≤ length (now out)) ⌝ }
+    ensures { λ end. ⌜ Put (now (out .entry)) (now (out .exit)) 0 (flatMap taskBytes (tasksOf tasks count)) end × (end ≤ taskSize * count) ⌝ }
+{
+    let mut end = 0;
+    let mut i = 0;
+    while i < count {
+        end = write_task(out, end, tasks[i]);
+        i += 1;
+    }
+    end
+}
+
+// Put the arc of the pair k, if the table has one.
+fn write_pair(out: &mut [u8], at: usize, k: usize, entry: u8) -> usize
+    requires { ⌜ (k < pairCount) × (at + arcSize ≤ length (now out)) ⌝ }
+    ensures { λ end. ⌜ Put (now (out .entry)) (now (out .exit)) at (flatMap arcBytes (arcAt k entry)) end ⌝ }
+{
+    if entry == 0 {
+        return at;
+    }
+    let from = (k / plan::LABELS) as u8;
+    let label = (k % plan::LABELS) as u8;
+    write_four(out, at, [0x04, from, label, entry - 1])
+}
+
+// Put the arcs of the table.
+fn write_arcs(out: &mut [u8], at: usize, next: &[u8; plan::PAIRS]) -> usize
+    requires { ⌜ at + arcSize * pairCount ≤ length (now out) ⌝ }
+    ensures { λ end. ⌜ Put (now (out .entry)) (now (out .exit)) at (flatMap arcBytes (arcsIn (now (next .entry)))) end × (end ≤ at + arcSize * pairCount) ⌝ }
+{
+    let mut end = at;
+    let mut k = 0;
+    while k < plan::PAIRS {
+        end = write_pair(out, end, k, next[k]);
+        k += 1;
+    }
+    end
+}
+
+// Put a plan's bytes, and gives their number.
+pub fn write(plan: Plan, out: &mut [u8]) -> usize
+    requires { ⌜ Sized plan × (planRoom ≤ length (now out)) ⌝ }
+    ensures { λ n. ⌜ n ≡ length (planBytes (planOf plan)) ⌝ }
+    ensures { λ _. ⌜ now (out .exit) ≡ overwrite (now (out .entry)) 0 (planBytes (planOf plan)) ⌝ }
+{
+    let tasks = plan.tasks;
+    let next = plan.next;
+    let head = write_tasks(out, tasks, plan.count);
+    let arcs = write_four(out, head, [0x02, plan.policy, 0x03, plan.states]);
+    let end = write_arcs(out, arcs, &next);
+    let size = end + 1;
+    out[end] = 0x05;
+    size
+}

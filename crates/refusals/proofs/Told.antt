@@ -1,0 +1,71 @@
+-- What a call tells, by what is due.
+-- Assumes nothing.
+use mathlib.Core.Path.{_≡_, refl, sym, ap, _∙_, subst}
+use mathlib.Core.Bool.{Bool, cond}
+use mathlib.Core.List.{List}
+use Prim.Native.Nat.{ℕ, _≤_, _<_}
+use native.Mathlib.Omega.{arith}
+use borrow.Author.Tests.{lt-ltb, le-ltb}
+use lib.ListN.{length, take}
+use Rattle.model.specs.Bytes.{overwrite}
+use Rattle.model.specs.Refusals.{shortMemory}
+use Rattle.model.specs.Plan.{Plan, PlanAnswer, readPlan}
+use Rattle.model.specs.Calls.{Writing, written, refuses, writes, withRoom, withPlan, resultOf, outputAfter}
+use Rattle.words.proofs.Memory.{overwrite-first}
+use Rattle.refusals.specs.Numbers.{refusalNumber}
+use Rattle.refusals.specs.Told.{Told}
+use Rattle.refusals.specs.declared.Refusal.{Refusal}
+use Rattle.refusals.specs.declared.Answer.{Answer}
+use Rattle.refusals.specs.declared.Answer.the-variants.{Refused, Written}
+
+module _ {A : Type 0} where
+  -- what is told of something due is told of anything equal
+  pub told-by : {spell : A → List ℕ} {a b : Writing A} {before after : List ℕ} {r : Answer} → a ≡ b → Told spell b before after r → Told spell a before after r
+  told-by {spell = spell} {before = before} {after = after} {r = r} e h = subst (λ (t : Writing A). Told spell t before after r) (sym e) h
+
+  -- and of an equal answer
+  pub told-as : {spell : A → List ℕ} {due : Writing A} {before after : List ℕ} {a b : Answer} → a ≡ b → Told spell due before after a → Told spell due before after b
+  told-as {spell = spell} {due = due} {before = before} {after = after} e h = subst (λ (r : Answer). Told spell due before after r) e h
+
+  -- a refusal leaves the output as it was
+  pub told-refusal : (spell : A → List ℕ) (due : Writing A) (before : List ℕ) (r : Refusal) → due ≡ refuses (refusalNumber r) → Told spell due before before (Refused r)
+  unfolding outputAfter
+  told-refusal spell due before r e = record {
+    answer = sym (ap (resultOf spell) e);
+    output = sym (ap (λ (b : Writing A). outputAfter spell b before) e);
+  }
+
+  -- what is written is told by its length
+  pub told-written : (spell : A → List ℕ) (due : Writing A) (a : A) (before after : List ℕ) (n : ℕ) → due ≡ writes a → n ≡ length (spell a) →
+      after ≡ overwrite before 0 (spell a) → Told spell due before after (Written n)
+  unfolding outputAfter
+  told-written spell due a before after n e l o = record {
+    answer = ap written l ∙ sym (ap (resultOf spell) e);
+    output = o ∙ sym (ap (λ (b : Writing A). outputAfter spell b before) e);
+  }
+
+  -- what was written is what was due, and its bytes stand first
+  pub record Written-as (spell : A → List ℕ) (due : Writing A) (after : List ℕ) (n : ℕ) : Type 0 where
+    pub what : A
+    pub was-due : due ≡ writes what
+    pub bytes : take n after ≡ spell what
+
+  pub told-bytes : (spell : A → List ℕ) (due : Writing A) (before after : List ℕ) (n : ℕ) → Told spell due before after (Written n) → Written-as spell due after n
+  unfolding outputAfter
+  told-bytes spell (refuses m) before after n t = let k = t .answer in let z : _≡_ {A = ℕ} 0 1 = cc in absurd (omega arith)
+  told-bytes spell (writes a) before after n t =
+      let size : n ≡ length (spell a) = let k = t .answer in cc in
+      record { what = a; was-due = refl; bytes = (λ i. take (size i) (t .output i)) ∙ overwrite-first before (spell a) }
+
+  -- the room comes first
+  module _ (room lent : ℕ) (due : Writing A) where
+    pub room-short : lent < room → withRoom room lent due ≡ refuses shortMemory
+    room-short h = ap (λ (b : Bool). cond b (refuses shortMemory) due) (lt-ltb lent room h)
+
+    pub room-enough : room ≤ lent → withRoom room lent due ≡ due
+    room-enough h = ap (λ (b : Bool). cond b (refuses shortMemory) due) (le-ltb lent room h)
+
+  -- and then the plan
+  pub by-plan : (room lent : ℕ) (f : Plan → Writing A) (plan : List ℕ) (a : PlanAnswer) → room ≤ lent → readPlan plan ≡ a →
+      withRoom room lent (withPlan (readPlan plan) f) ≡ withPlan a f
+  by-plan room lent f plan a h e = room-enough room lent (withPlan (readPlan plan) f) h ∙ ap (λ (p : PlanAnswer). withPlan p f) e
