@@ -1,19 +1,19 @@
 -- Laws of decimal numbers and of the cap.
 -- Assumes nothing.
 use mathlib.Core.Path.{_≡_, refl, sym, ap, _∙_}
-use mathlib.Core.Bool.{Bool, true, false, cond, _&&_, and-false}
+use mathlib.Core.Bool.{Bool, true, false, cond, _&&_}
 use mathlib.Core.List.{List, [], _∷_, foldl-append}
 use mathlib.Core.Option.{none, some}
-use Prim.Native.Nat.{ℕ, zero, suc, _+_, _*_, _-_, _≤_, _<_}
-use native.Mathlib.Nat.{not-suc-le-zero}
+use Prim.Native.Nat.{ℕ, _+_, _*_, _-_, _≤_, _<_}
 use native.Mathlib.Numerals.{add-one}
 use native.Mathlib.Omega.{arith}
-use borrow.Author.Tests.{lt-ltb, le-ltb, le-leb, lt-leb, ltb-true, ltb-false}
-use lib.Dec.{ltb, leb}
+use borrow.Author.Tests.{lt-ltb, le-ltb, ltb-true, ltb-false}
+use lib.Dec.{ltb}
 use lib.ListN.{length, getD, take}
 use lib.Seq.{take-suc}
 use Rattle.model.specs.Lists.{all}
-use Rattle.model.proofs.All.{all-append}
+use Rattle.model.proofs.All.{all-append, all-fails}
+use Rattle.model.proofs.Plan.{between-below, between-above, between-inside}
 use Rattle.model.proofs.Tests.{true-and}
 use Rattle.arguments.specs.Decimal.{isDigit, valueOf, decimalIn, largest, capped}
 
@@ -36,28 +36,20 @@ capped-digit n d = go (ltb largest n) refl
         ∙ capped-large (largest * 10 + d) (omega arith) ∙ sym (capped-large (n * 10 + d) (omega arith))
     go false e = ap (λ (k : ℕ). capped (k * 10 + d)) (capped-small n (ltb-false largest n e))
 
--- where an element fails, not all pass
-stops : (f : ℕ → Bool) (s : List ℕ) (i : ℕ) → i < length s → f (getD s i 0) ≡ false → all f s ≡ false
-stops f [] i h e = absurd (not-suc-le-zero h)
-stops f (x ∷ s) zero h e = ap (λ (b : Bool). b && all f s) e
-stops f (x ∷ s) (suc i) h e = ap (λ (b : Bool). f x && b) (stops f s i (omega arith) e) ∙ and-false (f x)
-
 -- with a byte that is no digit there is no number
 no-number : (s : List ℕ) (i : ℕ) → i < length s → isDigit (getD s i 0) ≡ false → decimalIn s ≡ none
 unfolding decimalIn
 no-number [] i h e = refl
-no-number (d ∷ ds) i h e = ap (λ (b : Bool). cond b (some (valueOf (d ∷ ds))) none) (stops isDigit (d ∷ ds) i h e)
+no-number (d ∷ ds) i h e = ap (λ (b : Bool). cond b (some (valueOf (d ∷ ds))) none) (all-fails isDigit (d ∷ ds) 0 i h e)
 
 module _ (s : List ℕ) (i : ℕ) (h : i < length s) where
   -- a byte below the digits
   pub low-byte : getD s i 0 < 48 → decimalIn s ≡ none
-  low-byte k = no-number s i h (ap (λ (b : Bool). b && leb (getD s i 0) 57) (lt-leb 48 (getD s i 0) k))
+  low-byte k = no-number s i h (between-below 48 (getD s i 0) 57 k)
 
   -- a byte above them
   pub high-byte : 57 < getD s i 0 → decimalIn s ≡ none
-  high-byte k =
-      no-number s i h
-      (ap (λ (b : Bool). leb 48 (getD s i 0) && b) (lt-leb (getD s i 0) 57 k) ∙ and-false (leb 48 (getD s i 0)))
+  high-byte k = no-number s i h (between-above 48 (getD s i 0) 57 k)
 
   -- one digit more
   pub digits-more : all isDigit (take i s) ≡ true → 48 ≤ getD s i 0 → getD s i 0 ≤ 57 → all isDigit (take (i + 1) s) ≡ true
@@ -65,7 +57,7 @@ module _ (s : List ℕ) (i : ℕ) (h : i < length s) where
       rw (add-one, take-suc s i 0 h)
       (all-append isDigit (take i s) (getD s i 0 ∷ [])
       ∙ true-and (all isDigit (take i s)) (isDigit (getD s i 0) && true) before
-      (true-and (isDigit (getD s i 0)) true (true-and (leb 48 (getD s i 0)) (leb (getD s i 0) 57) (le-leb _ _ low) (le-leb _ _ high)) refl))
+      (true-and (isDigit (getD s i 0)) true (between-inside 48 (getD s i 0) 57 low high) refl))
 
   value-more : valueOf (take (i + 1) s) ≡ valueOf (take i s) * 10 + (getD s i 0 - 48)
   unfolding valueOf

@@ -5,7 +5,7 @@ ghost use Prim.Native.Nat.{ℕ, _≤_};
 ghost use lib.ListN.{length};
 ghost use Rattle.io.specs.Counts.{Counts};
 ghost use Rattle.model.specs.Bytes.{Put};
-ghost use Rattle.model.specs.Calls.{resultOf};
+ghost use Rattle.model.specs.Calls.{resultOf, outputAfter};
 ghost use Rattle.model.specs.Gap.{taskGap};
 ghost use Rattle.model.specs.PlanBytes.{planBytes};
 ghost use Rattle.model.specs.Text.{decimal, lineFeed};
@@ -38,6 +38,7 @@ fn put_result(out: &mut [u8], answer: Answer) -> usize
 // Writes what the gap call tells and leaves to standard output, and answers the length of the line.
 fn write_gap(plan: &[u8], task: u64, slots: u64, out: &mut [u8]) -> usize
     ensures { λ n. ⌜ n ≡ length (resultLine (resultOf planBytes (taskGap (now (plan .entry)) task slots (length (now (out .entry)))))) ⌝ }
+    ensures { λ _. ⌜ now (out .exit) ≡ outputAfter planBytes (taskGap (now (plan .entry)) task slots (length (now (out .entry)))) (now (out .entry)) ⌝ }
 {
     let answer = gap::rewrite(plan, task, slots, out);
     let mut line = [0u8; 32];

@@ -1,15 +1,16 @@
 -- An answer as one number, and the numbers beside it.
 use mathlib.Core.Path.{_≡_}
 use mathlib.Core.List.{List, [], _∷_}
-use Prim.Native.Nat.{ℕ, _+_}
+use Prim.Native.Nat.{ℕ, _+_, _<_}
+use lib.ListN.{length, take}
 use Rattle.model.specs.Check.{CheckAnswer}
-use Rattle.model.specs.Calls.{Result, refused, written}
+use Rattle.model.specs.Calls.{Result, refused, written, resultOf, outputAfter}
+use Rattle.model.specs.Gap.{isTask, taskGap, HasGap}
+use Rattle.model.specs.Plan.{Plan, sound, readPlan}
+use Rattle.model.specs.PlanBytes.{planBytes}
 use Rattle.solver.specs.declared.Answer as solver
 use Rattle.solver.specs.declared.Answer.the-variants as solved
 use Rattle.refusals.specs.Numbers.{refusalNumber}
-use Rattle.refusals.specs.declared.Answer.{Answer}
-use Rattle.refusals.specs.Told.{resultBy}
-use Rattle.gap.specs.Promise.{Rewrites}
 use Rattle.solver.specs.Promise.{Solves}
 
 -- the bytes written, or 65,536 and the number of the refusal
@@ -38,8 +39,8 @@ pub record SolvesAs (plan work work′ out out′ : List ℕ) (r : ℕ) : Type 0
   pub code : r ≡ solveCode answer
   pub solves : Solves plan work work′ out out′ answer
 
--- the number of an answer that keeps the gap call's promise
+-- the gap call's promise by that number: its answer and output are the definition's, and bytes that were written have the gap
 pub record RewritesAs (plan : List ℕ) (task slots : ℕ) (out out′ : List ℕ) (r : ℕ) : Type 0 where
-  pub answer : Answer
-  pub code : r ≡ codeOf (resultBy answer)
-  pub rewrites : Rewrites plan task slots out out′ answer
+  pub code : r ≡ codeOf (resultOf planBytes (taskGap plan task slots (length out)))
+  pub output : out′ ≡ outputAfter planBytes (taskGap plan task slots (length out)) out
+  pub kept : (P : Plan) → readPlan plan ≡ sound P → r < 65536 → HasGap P (isTask task) slots (take r out′)

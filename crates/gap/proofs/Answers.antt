@@ -1,12 +1,10 @@
 -- The call's answer by its tests.
 -- Assumes nothing.
-use mathlib.Core.Path.{_≡_, sym, ap, ap₂, subst, _∙_}
+use mathlib.Core.Path.{_≡_, sym, ap, subst, _∙_}
 use mathlib.Core.Bool.{Bool, true, false, cond, _&&_}
 use mathlib.Core.List.{List}
 use Prim.Native.Nat.{ℕ, _≤_, _<_}
 use native.Mathlib.Omega.{arith}
-use borrow.Author.Tests.{le-leb, lt-leb}
-use lib.Dec.{leb}
 use lib.ListN.{length}
 use Rattle.model.specs.Bytes.{overwrite}
 use Rattle.model.specs.Calls.{Writing, refuses, writes, withPlan}
@@ -16,6 +14,7 @@ use Rattle.model.specs.Plan as model
 use Rattle.model.specs.Plan.{PlanAnswer, between, readPlan}
 use Rattle.model.specs.PlanBytes.{planBytes}
 use Rattle.model.specs.Gap.{isTask, gapPlan, gapIn, taskGap, HasGap}
+use Rattle.model.proofs.Plan.{between-below, between-above, between-inside}
 use Rattle.theory.proofs.Gaps.{task-gap-has}
 use Rattle.plan.specs.declared.Plan.{Plan}
 use Rattle.plan.specs.View.{planOf, Sized}
@@ -26,17 +25,6 @@ use Rattle.refusals.specs.declared.Answer.the-variants.{Refused, Written}
 use Rattle.refusals.specs.Told.{Told}
 use Rattle.refusals.proofs.Told.{told-as, told-refusal, told-written, told-bytes, room-short, by-plan}
 use Rattle.gap.specs.Promise.{Rewrites}
-
--- ---- a number from 1 to a limit
-
-below : (n m : ℕ) → n < 1 → between 1 n m ≡ false
-below n m h = ap (λ (b : Bool). b && leb n m) (lt-leb 1 n h)
-
-above : (n m : ℕ) → 1 ≤ n → m < n → between 1 n m ≡ false
-above n m h k = ap₂ (λ (a b : Bool). a && b) (le-leb 1 n h) (lt-leb n m k)
-
-inside : (n m : ℕ) → 1 ≤ n → n ≤ m → between 1 n m ≡ true
-inside n m h k = ap₂ (λ (a b : Bool). a && b) (le-leb 1 n h) (le-leb n m k)
 
 -- ---- the tests on task and gap
 
@@ -57,25 +45,24 @@ module _ (p : Plan) (z : Sized p) (task slots : ℕ) (before : List ℕ) where
   refusal e = told-refusal planBytes due before BadGap e
 
   pub no-gap : slots < 1 → Told planBytes due before before (Refused BadGap)
-  no-gap h = refusal (λ i. cond (below slots maxGap h i && known) (writes (gapPlan (planOf p) (isTask task) slots)) (refuses badGap))
+  no-gap h = refusal (λ i. cond (between-below 1 slots maxGap h i && known) (writes (gapPlan (planOf p) (isTask task) slots)) (refuses badGap))
 
-  module _ (some : 1 ≤ slots) where
-    pub long-gap : maxGap < slots → Told planBytes due before before (Refused BadGap)
-    long-gap h = refusal (λ i. cond (above slots maxGap some h i && known) (writes (gapPlan (planOf p) (isTask task) slots)) (refuses badGap))
+  pub long-gap : maxGap < slots → Told planBytes due before before (Refused BadGap)
+  long-gap h = refusal (λ i. cond (between-above 1 slots maxGap h i && known) (writes (gapPlan (planOf p) (isTask task) slots)) (refuses badGap))
 
-    module _ (most : slots ≤ maxGap) where
-      pub no-task : task < 1 → Told planBytes due before before (Refused BadGap)
-      no-task h = refusal (by-tests true false (inside slots maxGap some most) (below task (length (planOf p .tasks)) h))
+  module _ (some : 1 ≤ slots) (most : slots ≤ maxGap) where
+    pub no-task : task < 1 → Told planBytes due before before (Refused BadGap)
+    no-task h = refusal (by-tests true false (between-inside 1 slots maxGap some most) (between-below 1 task (length (planOf p .tasks)) h))
 
-      pub unknown-task : 1 ≤ task → p .count < task → Told planBytes due before before (Refused BadGap)
-      unknown-task h k = refusal (by-tests true false (inside slots maxGap some most) (above task (length (planOf p .tasks)) h (omega (arith, counted))))
+    pub unknown-task : p .count < task → Told planBytes due before before (Refused BadGap)
+    unknown-task h = refusal (by-tests true false (between-inside 1 slots maxGap some most) (between-above 1 task (length (planOf p .tasks)) (omega (arith, counted))))
 
-      pub gap-written : 1 ≤ task → task ≤ p .count → (q : Plan) → planOf q ≡ gapPlan (planOf p) (isTask task) slots → (after : List ℕ) (n : ℕ) →
-          n ≡ length (planBytes (planOf q)) → after ≡ overwrite before 0 (planBytes (planOf q)) → Told planBytes due before after (Written n)
-      gap-written h k q e after n size bytes =
-          told-written planBytes due (planOf q) before after n
-          (by-tests true true (inside slots maxGap some most) (inside task (length (planOf p .tasks)) h (omega (arith, counted))) ∙ ap writes (sym e))
-          size bytes
+    pub gap-written : 1 ≤ task → task ≤ p .count → (q : Plan) → planOf q ≡ gapPlan (planOf p) (isTask task) slots → (after : List ℕ) (n : ℕ) →
+        n ≡ length (planBytes (planOf q)) → after ≡ overwrite before 0 (planBytes (planOf q)) → Told planBytes due before after (Written n)
+    gap-written h k q e after n size bytes =
+        told-written planBytes due (planOf q) before after n
+        (by-tests true true (between-inside 1 slots maxGap some most) (between-inside 1 task (length (planOf p .tasks)) h (omega (arith, counted))) ∙ ap writes (sym e))
+        size bytes
 
 -- ---- what is written has the gap
 
@@ -85,7 +72,7 @@ rewrites plan task slots before after r t = record {
   told = t;
   kept = λ P read n e.
       let w = told-bytes planBytes (taskGap plan task slots (length before)) before after n (told-as e t) in
-      subst (HasGap P (isTask task) slots) (sym (w .bytes)) (task-gap-has plan task slots (length before) P (w .what) read (w .was-due));
+      subst (HasGap P (isTask task) slots) (sym (w .bytes)) (task-gap-has plan task slots (length before) P (w .what) read (w .isDue));
 }
 
 -- ---- the tests before them

@@ -4,7 +4,7 @@ use mathlib.Core.Path.{_≡_, refl, sym, ap, _∙_}
 use mathlib.Core.Bool.{Bool, true, false, cond, _&&_}
 use mathlib.Core.List.{List, map}
 use mathlib.Core.Option.{Option, none, some}
-use Prim.Native.Nat.{ℕ, zero, suc, _+_, _-_, _*_, _/_, _%_, _^_, _≤_, _<_}
+use Prim.Native.Nat.{ℕ, zero, suc, _+_, _-_, _*_, _^_, _≤_, _<_}
 use native.Mathlib.Decide.{ℕ-discrete}
 use native.Mathlib.Omega.{arith}
 use borrow.Author.Tests.{lt-ltb, le-ltb, eq-eqb, ne-eqb}
@@ -18,7 +18,7 @@ use Rattle.model.proofs.Lists.{getD-table, length-upFrom}
 use Rattle.theory.proofs.Sums.{sum-zero}
 use Rattle.plan.specs.declared.Plan.{Plan}
 use Rattle.plan.specs.View.{tasksOf, labelCount, pairCount, arcsIn, nextOf, entryOf, planOf, Sized}
-use Rattle.plan.proofs.View.{tasks-length}
+use Rattle.plan.proofs.View.{tasks-length, pair-state, pair-label}
 use Rattle.plan.proofs.Arcs.{table-arcs}
 use Rattle.gap.specs.declared.Gap.{Gap}
 use Rattle.gap.specs.Automaton.{Fits, leads, pairEntry}
@@ -64,7 +64,7 @@ module _ (a : Gap) (s l : ℕ) where
 
       pub opened : s ≡ 0 → bit l (a .task - 1) ≡ true → a .slots ≡ entryOf (leads a s l)
       opened p e =
-          let whole : a .slots ≡ suc (a .slots - 1) = omega (arith, fits .some) in
+          let whole : a .slots ≡ suc (a .slots - 1) = omega (arith, fits .shortest) in
           whole ∙ sym (ap (λ (t : ℕ). entryOf (gapNext (a .slots) t 1)) p) ∙ by-release true e
 
       -- the task stays closed for one slot fewer
@@ -86,19 +86,13 @@ next-entry (some t) = refl
 
 -- an entry of the table is the one of its state and label
 at-pair : (a : Gap) (s l : ℕ) → s < maxStates → l < labelCount → getD (map (pairEntry a) (upFrom 0 pairCount)) (s * labelCount + l) 0 ≡ entryOf (leads a s l)
-at-pair a s l h k = getD-table (pairEntry a) pairCount (s * labelCount + l) 0 (omega arith) ∙ (λ i. entryOf (leads a (state i) (label i)))
-  where
-    state : (s * labelCount + l) / labelCount ≡ s
-    state = omega arith
-
-    label : (s * labelCount + l) % labelCount ≡ l
-    label = omega arith
+at-pair a s l h k = getD-table (pairEntry a) pairCount (s * labelCount + l) 0 (omega arith) ∙ (λ i. entryOf (leads a (pair-state s l k i) (pair-label s l k i)))
 
 -- its arcs are the automaton's
 gap-arcs : (a : Gap) → Fits a → (table : List ℕ) → table ≡ map (pairEntry a) (upFrom 0 pairCount) →
     arcsIn table ≡ arcsOf (a .slots) (a .count) (λ s l. gapNext (a .slots) s (releases (isTask (a .task)) (a .count) l))
 gap-arcs a f table e =
-    table-arcs table (a .slots) (a .count) (λ s l. gapNext (a .slots) s (releases (isTask (a .task)) (a .count) l)) (f .most) (f .few)
+    table-arcs table (a .slots) (a .count) (λ s l. gapNext (a .slots) s (releases (isTask (a .task)) (a .count) l)) (f .longest) (f .few)
     (λ s l h k. ap (λ (t : List ℕ). nextOf (getD t (s * labelCount + l) 0)) e ∙ ap nextOf (at-pair a s l h k) ∙ next-entry (leads a s l))
 
 -- ---- the plan
@@ -117,5 +111,5 @@ module _ (p : Plan) (z : Sized p) (task slots : ℕ) (table : List ℕ) (e : tab
     where
       same : arcsIn table ≡ arcsOf slots (length (tasksOf (p .tasks) (p .count))) (λ s l. gapNext slots s (releases (isTask task) (length (tasksOf (p .tasks) (p .count))) l))
       same =
-          gap-arcs (record { count = p .count; task = task; slots = slots }) (record { few = z .fits; numbered = t1; known = t2; some = s1; most = s2 }) table e
+          gap-arcs (record { count = p .count; task = task; slots = slots }) (record { few = z .fits; numbered = t1; known = t2; shortest = s1; longest = s2 }) table e
           ∙ ap (λ (n : ℕ). arcsOf slots n (λ s l. gapNext slots s (releases (isTask task) n l))) (sym (tasks-length (p .tasks) (p .count) (omega (arith, z .fits, z .room))))

@@ -13,8 +13,8 @@ pub record Fits (a : Gap) : Type 0 where
   pub few : a .count ≤ maxTasks
   pub numbered : 1 ≤ a .task
   pub known : a .task ≤ a .count
-  pub some : 1 ≤ a .slots
-  pub most : a .slots ≤ maxGap
+  pub shortest : 1 ≤ a .slots
+  pub longest : a .slots ≤ maxGap
 
 -- where a label leads from a state; from what is no state, and by what is no label of the plan's tasks, nowhere
 abbrev pub leads : Gap → ℕ → ℕ → Option ℕ

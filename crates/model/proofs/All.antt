@@ -10,7 +10,7 @@ use native.Mathlib.Omega.{arith}
 use lib.ListN.{length, getD, drop, drop-of-length-le}
 use lib.Seq.{drop-cons}
 use Rattle.model.specs.Lists.{all, flatMap, upFrom}
-use Rattle.model.proofs.Lists.{upFrom-append, mem-upFrom}
+use Rattle.model.proofs.Lists.{upFrom-append, length-upFrom, getD-upFrom, mem-getD}
 use Rattle.model.proofs.Tests.{is-true, is-false, holds, fails, true-and, all-each}
 
 module _ {ℓ} {A : Type ℓ} where
@@ -22,6 +22,11 @@ module _ {ℓ} {A : Type ℓ} where
   pub all-same : (f g : A → Bool) (l : List A) → ((a : A) → List·Memᴰ a l → f a ≡ g a) → all f l ≡ all g l
   all-same f g [] h = refl
   all-same f g (x ∷ l) h = ap₂ (λ b c. b && c) (h x (List·Memᴰ·head refl)) (all-same f g l (λ a m. h a (List·Memᴰ·tail m)))
+
+  -- where an element fails, not all pass
+  pub all-fails : (f : A → Bool) (l : List A) (d : A) (i : ℕ) → i < length l → f (getD l i d) ≡ false → all f l ≡ false
+  all-fails f l d i h e =
+      is-false (all f l) (λ t. fails e (holds (all-each f l .0 (is-true (all f l) t) (getD l i d) (mem-getD l i d h))))
 
 -- of those from a place on
 module _ {ℓ} {A : Type ℓ} (f : A → Bool) (l : List A) (d : A) where
@@ -51,5 +56,4 @@ module _ (f : ℕ → Bool) where
   -- one fails
   pub all-stops : (k n : ℕ) → k < n → f k ≡ false → all f (upFrom 0 n) ≡ false
   all-stops k n h e =
-      is-false (all f (upFrom 0 n))
-      (λ t. fails e (holds (all-each f (upFrom 0 n) .0 (is-true (all f (upFrom 0 n)) t) k (mem-upFrom 0 n (omega arith) (omega arith)))))
+      all-fails f (upFrom 0 n) 0 k (omega (arith, length-upFrom 0 n)) (ap f (getD-upFrom 0 n k 0 h ∙ zero-add k) ∙ e)

@@ -1,22 +1,36 @@
 -- Laws of the reading of plan bytes: one command at a time, and what a command without a fault is.
 -- Assumes nothing.
-use mathlib.Core.Path.{_≡_, refl, ap, _∙_}
-use mathlib.Core.Bool.{Bool, true, false, cond, _&&_, _||_, false≢true}
+use mathlib.Core.Path.{_≡_, refl, ap, ap₂, _∙_}
+use mathlib.Core.Bool.{Bool, true, false, cond, _&&_, _||_, and-false, false≢true}
 use mathlib.Core.List.{List, [], _∷_, _++_}
 use mathlib.Core.Option.{Option, none, some}
 use Prim.Native.Nat.{ℕ, zero, suc, _+_, _-_, _^_, _≤_, _<_}
 use native.Mathlib.Nat.{not-suc-le-zero}
 use native.Mathlib.Omega.{arith}
-use borrow.Author.Tests.{ltb-true, ltb-false, leb-true}
+use borrow.Author.Tests.{ltb-true, ltb-false, leb-true, le-leb, lt-leb}
 use lib.Dec.{eqb, ltb, leb}
 use lib.ListN.{length, getD, drop, length-drop}
 use lib.Seq.{drop-cons, drop-drop, getD-drop}
-use Rattle.model.specs.Plan.{Arc, isArc, nextIn, Reading, readCommands, readFrom, refusedOr, firstFault, fault, after, width, atEnd, mayFollow, inRange, arcInRange, pairRises, rising, pairBelow, unknown, isZero}
+use Rattle.model.specs.Plan.{Arc, isArc, nextIn, Reading, readCommands, readFrom, refusedOr, firstFault, fault, after, width, atEnd, mayFollow, inRange, arcInRange, pairRises, rising, pairBelow, between, unknown, isZero}
 use Rattle.model.specs.Limits.{maxTasks, maxStates}
 
 pub both : (a b : Bool) → (a && b) ≡ true → (a ≡ true) × (b ≡ true)
 both true b h = (refl, h)
 both false b h = absurd (false≢true h)
+
+-- ---- a number within bounds
+
+module _ (low n high : ℕ) where
+  pub between-below : n < low → between low n high ≡ false
+  between-below h = ap (λ (b : Bool). b && leb n high) (lt-leb low n h)
+
+  pub between-above : high < n → between low n high ≡ false
+  between-above h = ap (λ (b : Bool). leb low n && b) (lt-leb n high h) ∙ and-false (leb low n)
+
+  pub between-inside : low ≤ n → n ≤ high → between low n high ≡ true
+  between-inside h k = ap₂ (λ (a b : Bool). a && b) (le-leb low n h) (le-leb n high k)
+
+-- ---- commands
 
 -- every command takes a byte
 pub width-pos : (c : ℕ) → 1 ≤ width c

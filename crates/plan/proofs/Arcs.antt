@@ -4,7 +4,7 @@ use mathlib.Core.Path.{_≡_, refl, sym, ap, ap₂, _∙_}
 use mathlib.Core.Bool.{Bool, true, false, cond, _&&_}
 use mathlib.Core.List.{List, [], _∷_, _++_, append-assoc, append-nil}
 use mathlib.Core.Option.{Option, none}
-use Prim.Native.Nat.{ℕ, zero, suc, _+_, _*_, _/_, _%_, _^_, _≤_, _<_}
+use Prim.Native.Nat.{ℕ, zero, suc, _+_, _*_, _^_, _≤_, _<_}
 use native.Mathlib.Nat.{add-suc, add-zero}
 use native.Mathlib.Omega.{arith}
 use borrow.Author.Tests.{lt-ltb, le-ltb}
@@ -16,6 +16,7 @@ use Rattle.model.specs.Lists.{flatMap, upFrom}
 use Rattle.model.specs.Plan.{Arc}
 use Rattle.model.specs.PlanBytes.{givenArc, arcsOf}
 use Rattle.model.proofs.Lists.{flatMap-none, flatMap-append, upFrom-append, mem-of-upFrom}
+use Rattle.plan.proofs.View.{pair-state, pair-label}
 use Rattle.plan.specs.View.{labelCount, arcAt, arcsBelow, arcsIn, nextOf}
 
 -- ---- lists over the numbers from k up
@@ -53,13 +54,7 @@ entry table s l = nextOf (getD table (s * labelCount + l) 0)
 
 pair-arc : (s l to : ℕ) → l < labelCount → arcAt (s * labelCount + l) to ≡ givenArc s l (nextOf to)
 pair-arc s l zero h = refl
-pair-arc s l (suc t) h = λ i. record { from = state i; label = label i; to = t } ∷ []
-  where
-    state : (s * labelCount + l) / labelCount ≡ s
-    state = omega arith
-
-    label : (s * labelCount + l) % labelCount ≡ l
-    label = omega arith
+pair-arc s l (suc t) h = λ i. record { from = pair-state s l h i; label = pair-label s l h i; to = t } ∷ []
 
 module _ (table : List ℕ) where
   abbrev row : ℕ → ℕ → List Arc

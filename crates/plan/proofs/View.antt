@@ -121,6 +121,14 @@ module _ (next : List ℕ) (least k t : ℕ) (h : Holds next least) (rises : lea
 
 -- ---- the next state
 
+-- the state and the label of a pair, by its place
+module _ (s l : ℕ) (h : l < labelCount) where
+  pub pair-state : (s * labelCount + l) / labelCount ≡ s
+  pair-state = omega arith
+
+  pub pair-label : (s * labelCount + l) % labelCount ≡ l
+  pair-label = omega arith
+
 -- a pair is told by its place
 pair-place : (n s l : ℕ) → l < labelCount → (eqb (n / labelCount) s && eqb (n % labelCount) l) ≡ eqb n (s * labelCount + l)
 pair-place n s l h = go (eqb (n / labelCount) s) (eqb (n % labelCount) l) refl refl

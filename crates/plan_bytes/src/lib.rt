@@ -15,7 +15,7 @@ ghost use Rattle.plan_bytes.specs.Sizes.{taskSize, arcSize};
 // The most bytes of a plan.
 pub const PLAN_ROOM: usize = Node::PLAN_ROOM;
 
-// Put four bytes, and gives the place after them.
+// Writes four bytes, and gives the place after them.
 fn write_four(out: &mut [u8], at: usize, bytes: [u8; 4]) -> usize
     requires { ⌜ at + 4 ≤ length (now out) ⌝ }
     ensures { λ end. ⌜ Put (now (out .entry)) (now (out .exit)) at bytes end ⌝ }
@@ -24,7 +24,7 @@ fn write_four(out: &mut [u8], at: usize, bytes: [u8; 4]) -> usize
     at + 4
 }
 
-// Put a task; its value is written here alone.
+// Writes a task; its value is written here alone.
 fn write_task(out: &mut [u8], at: usize, t: Task) -> usize
     requires { ⌜ at + taskSize ≤ length (now out) ⌝ }
     ensures { λ end. ⌜ Put (now (out .entry)) (now (out .exit)) at (taskBytes (taskView t)) end ⌝ }
@@ -32,7 +32,7 @@ fn write_task(out: &mut [u8], at: usize, t: Task) -> usize
     write_four(out, at, [0x01, t.work, t.window, t.value])
 }
 
-// Put the first `count` tasks.
+// Writes the first `count` tasks.
 fn write_tasks(out: &mut [u8], tasks: [Task; Node::MAX_TASKS], count: usize) -> usize
     requires { ⌜ (count ≤ maxTasks) × (taskSize * count ≤ length (now out)) ⌝ }
     ensures { λ end. ⌜ Put (now (out .entry)) (now (out .exit)) 0 (flatMap taskBytes (tasksOf tasks count)) end × (end ≤ taskSize * count) ⌝ }
@@ -46,7 +46,7 @@ fn write_tasks(out: &mut [u8], tasks: [Task; Node::MAX_TASKS], count: usize) -> 
     end
 }
 
-// Put the arc of the pair k, if the table has one.
+// Writes the arc of the pair k, if the table has one.
 fn write_pair(out: &mut [u8], at: usize, k: usize, entry: u8) -> usize
     requires { ⌜ (k < pairCount) × (at + arcSize ≤ length (now out)) ⌝ }
     ensures { λ end. ⌜ Put (now (out .entry)) (now (out .exit)) at (flatMap arcBytes (arcAt k entry)) end ⌝ }
@@ -59,7 +59,7 @@ fn write_pair(out: &mut [u8], at: usize, k: usize, entry: u8) -> usize
     write_four(out, at, [0x04, from, label, entry - 1])
 }
 
-// Put the arcs of the table.
+// Writes the arcs of the table.
 fn write_arcs(out: &mut [u8], at: usize, next: &[u8; plan::PAIRS]) -> usize
     requires { ⌜ at + arcSize * pairCount ≤ length (now out) ⌝ }
     ensures { λ end. ⌜ Put (now (out .entry)) (now (out .exit)) at (flatMap arcBytes (arcsIn (now (next .entry)))) end × (end ≤ at + arcSize * pairCount) ⌝ }
@@ -73,7 +73,7 @@ fn write_arcs(out: &mut [u8], at: usize, next: &[u8; plan::PAIRS]) -> usize
     end
 }
 
-// Put a plan's bytes, and gives their number.
+// Writes a plan's bytes, and gives their number.
 pub fn write(plan: Plan, out: &mut [u8]) -> usize
     requires { ⌜ Sized plan × (planRoom ≤ length (now out)) ⌝ }
     ensures { λ n. ⌜ n ≡ length (planBytes (planOf plan)) ⌝ }

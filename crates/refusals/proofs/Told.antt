@@ -45,17 +45,17 @@ module _ {A : Type 0} where
   }
 
   -- what was written is what was due, and its bytes stand first
-  pub record Written-as (spell : A → List ℕ) (due : Writing A) (after : List ℕ) (n : ℕ) : Type 0 where
+  pub record WrittenAs (spell : A → List ℕ) (due : Writing A) (after : List ℕ) (n : ℕ) : Type 0 where
     pub what : A
-    pub was-due : due ≡ writes what
+    pub isDue : due ≡ writes what
     pub bytes : take n after ≡ spell what
 
-  pub told-bytes : (spell : A → List ℕ) (due : Writing A) (before after : List ℕ) (n : ℕ) → Told spell due before after (Written n) → Written-as spell due after n
+  pub told-bytes : (spell : A → List ℕ) (due : Writing A) (before after : List ℕ) (n : ℕ) → Told spell due before after (Written n) → WrittenAs spell due after n
   unfolding outputAfter
   told-bytes spell (refuses m) before after n t = let k = t .answer in let z : _≡_ {A = ℕ} 0 1 = cc in absurd (omega arith)
   told-bytes spell (writes a) before after n t =
       let size : n ≡ length (spell a) = let k = t .answer in cc in
-      record { what = a; was-due = refl; bytes = (λ i. take (size i) (t .output i)) ∙ overwrite-first before (spell a) }
+      record { what = a; isDue = refl; bytes = (λ i. take (size i) (t .output i)) ∙ overwrite-first before (spell a) }
 
   -- the room comes first
   module _ (room lent : ℕ) (due : Writing A) where

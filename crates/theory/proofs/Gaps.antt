@@ -52,11 +52,6 @@ module _ (P : Plan) (s : PlanSound P) (set : ℕ → Bool) (g : ℕ) (g1 : 1 ≤
 
 -- ---- whatever the call writes has the gap
 
--- the plan of what is to be written, another one where nothing is
-planIn : Plan → Writing Plan → Plan
-planIn P (refuses n) = P
-planIn P (writes Q) = Q
-
 -- of two answers the one that is taken writes
 taken : (b : Bool) (n : ℕ) (a : Writing Plan) (Q : Plan) → cond b a (refuses n) ≡ writes Q → (b ≡ true) × (a ≡ writes Q)
 taken true n a Q e = (refl, e)
@@ -67,12 +62,12 @@ roomy true n a Q e = let z : _≡_ {A = ℕ} 0 1 = cc in absurd (omega arith)
 roomy false n a Q e = e
 
 gap-in : (P Q : Plan) → PlanSound P → (set : ℕ → Bool) (known : Bool) (g : ℕ) → gapIn P set known g ≡ writes Q → HasGap P set g (planBytes Q)
-unfolding planIn
 gap-in P Q s set known g e =
     let a = taken (between 1 g maxGap && known) badGap (writes (gapPlan P set g)) Q e in
     let two = both (between 1 g maxGap) known (a .0) in
     let ends = both (leb 1 g) (leb g maxGap) (two .0) in
-    subst (λ (R : Plan). HasGap P set g (planBytes R)) (ap (planIn P) (a .1)) (gap-has P s set g (leb-true _ _ (ends .0)) (leb-true _ _ (ends .1)))
+    let same : gapPlan P set g ≡ Q = let k = a .1 in cc in
+    subst (λ (R : Plan). HasGap P set g (planBytes R)) same (gap-has P s set g (leb-true _ _ (ends .0)) (leb-true _ _ (ends .1)))
 
 -- a call over a plan that is sound
 over : (plan : List ℕ) (lent : ℕ) (f : Plan → Writing Plan) (P Q : Plan) → readPlan plan ≡ sound P → withRoom planRoom lent (withPlan (readPlan plan) f) ≡ writes Q → f P ≡ writes Q

@@ -10,13 +10,13 @@ returns : tie.Need-returns
 returns c = let s = c .before .before in no-gap (s .args .plan) (s .pre .0) (s .args .task) (s .args .slots) _ (c .if1 .taken)
 
 returns-2 : tie.Need-returns-2
-returns-2 c = let s = c .before .before .before in long-gap (s .args .plan) (s .pre .0) (s .args .task) (s .args .slots) _ (omega arith) (c .if2 .taken)
+returns-2 c = let s = c .before .before .before in long-gap (s .args .plan) (s .pre .0) (s .args .task) (s .args .slots) _ (c .if2 .taken)
 
 returns-3 : tie.Need-returns-3
 returns-3 c = let s = c .before .before .before .before in no-task (s .args .plan) (s .pre .0) (s .args .task) (s .args .slots) _ (omega arith) (omega arith) (c .if3 .taken)
 
 returns-4 : tie.Need-returns-4
-returns-4 c = let s = c .before .before .before .before .before in unknown-task (s .args .plan) (s .pre .0) (s .args .task) (s .args .slots) _ (omega arith) (omega arith) (omega arith) (omega arith)
+returns-4 c = let s = c .before .before .before .before .before in unknown-task (s .args .plan) (s .pre .0) (s .args .task) (s .args .slots) _ (omega arith) (omega arith) (omega arith)
 
 cast-with-gap : tie.Need-cast-with-gap
 cast-with-gap c = search needs

@@ -3,26 +3,20 @@
 use mathlib.Core.Path.{_≡_, ap, _∙_}
 use mathlib.Core.List.{List, [], _∷_, _++_}
 use borrow.Author.Needs.{needs}
-use Prim.Native.Nat.{ℕ, _+_, _*_, _/_, _%_, _<_}
+use Prim.Native.Nat.{ℕ, _+_, _*_, _<_}
 use native.Mathlib.Numerals.{add-one}
 use native.Mathlib.Omega.{arith}
 use lib.ListN.{set}
 use Rattle.model.specs.Plan.{Arc, after}
 use Rattle.plan.specs.declared.Reading.{Reading}
 use Rattle.plan.specs.View.{tasksOf, arcsIn, labelCount, pairCount, ReadableArc, Reads}
-use Rattle.plan.proofs.View.{arcOf, arcs-add, holds-add}
+use Rattle.plan.proofs.View.{arcOf, arcs-add, holds-add, pair-state, pair-label}
 use Rattle.plan.proofs.with_arc.Statement.{statement}
 use Rattle.plan.proofs.with_arc.Tie as tie
 
 -- a pair is told by its place
 arc-of-pair : (s l t : ℕ) → l < labelCount → arcOf (s * labelCount + l) t ≡ record { from = s; label = l; to = t }
-arc-of-pair s l t h = λ i. record { from = from i; label = label i; to = t }
-  where
-    from : (s * labelCount + l) / labelCount ≡ s
-    from = omega arith
-
-    label : (s * labelCount + l) % labelCount ≡ l
-    label = omega arith
+arc-of-pair s l t h = λ i. record { from = pair-state s l h i; label = pair-label s l h i; to = t }
 
 arc-read : (r : Reading) (next : List ℕ) (s l t : ℕ) → ReadableArc r next s l t →
     Reads r

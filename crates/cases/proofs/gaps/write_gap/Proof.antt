@@ -37,7 +37,8 @@ returns : tie.Need-returns
 returns c =
     let p = c .before .before .before .before .before in
     let w = p .before .before .before .before in
-    p .put-result .ensures .0 .next ∙ zero-add _ ∙ ap (λ (r : Result). length (resultLine r)) (w .rewrite .ensures .told .answer)
+    let t = w .rewrite .ensures .told in
+    (p .put-result .ensures .0 .next ∙ zero-add _ ∙ ap (λ (r : Result). length (resultLine r)) (t .answer), t .output)
 
 pub write-gap-spec : {M : Type 1} → statement M
 write-gap-spec =

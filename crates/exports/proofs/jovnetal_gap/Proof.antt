@@ -1,0 +1,44 @@
+-- `exports::jovnetal_gap` meets its contract: the number of what the gap call told; bytes were written where it is small.
+-- Assumes nothing.
+use mathlib.Core.Path.{_≡_, refl, sym, ap, subst, _∙_}
+use mathlib.Core.List.{List}
+use Prim.Native.Nat.{ℕ}
+use native.Mathlib.Omega.{arith}
+use lib.ListN.{take}
+use Rattle.model.specs.Gap.{isTask, HasGap}
+use Rattle.refusals.specs.declared.Answer.{Answer}
+use Rattle.refusals.specs.declared.Answer.the-variants.{Refused, Written}
+use Rattle.refusals.specs.Told.{resultBy}
+use Rattle.gap.specs.Promise.{Rewrites}
+use Rattle.exports.specs.Codes.{codeOf, RewritesAs}
+use borrow.Author.Needs.{needs}
+use Rattle.exports.proofs.jovnetal_gap.Statement.{statement}
+use Rattle.exports.proofs.jovnetal_gap.Tie as tie
+
+rewrites-as : (plan : List ℕ) (task slots : ℕ) (out out′ : List ℕ) (a : Answer) (r : ℕ) → Rewrites plan task slots out out′ a → r ≡ codeOf (resultBy a) →
+    RewritesAs plan task slots out out′ r
+rewrites-as plan task slots out out′ (Refused f) r w e = record {
+  code = e ∙ ap codeOf (w .told .answer);
+  output = w .told .output;
+  kept = λ P read small. absurd (omega (arith, e));
+}
+rewrites-as plan task slots out out′ (Written n) r w e = record {
+  code = e ∙ ap codeOf (w .told .answer);
+  output = w .told .output;
+  kept = λ P read small. subst (λ (k : ℕ). HasGap P (isTask task) slots (take k out′)) (sym e) (w .kept P read n refl);
+}
+
+rewrite-requires : tie.Need-rewrite-requires
+rewrite-requires c κs = search needs
+
+code-requires : tie.Need-code-requires
+code-requires c κs = search needs
+
+same-length : tie.Need-same-length
+same-length c = search needs
+
+returns : tie.Need-returns
+returns c = rewrites-as _ _ _ _ _ _ _ (c .before .before .before .rewrite .ensures) (c .code .ensures)
+
+pub jovnetal-gap-spec : {M : Type 1} → statement M
+jovnetal-gap-spec = tie.close (tie.spec rewrite-requires code-requires same-length returns)
