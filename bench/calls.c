@@ -1,5 +1,5 @@
 /* Calls the library as a C program does: solves case B, checks the certificate, traces labels 2, 1, 0, gives task 1 a gap of two
-   slots, and sees that refusals leave memory as it was. */
+   slots, combines case B with that plan, and sees that refusals leave memory as it was. */
 #include <stdio.h>
 #include <string.h>
 
@@ -11,6 +11,7 @@ static uint8_t work[JOVNETAL_WORK_ROOM];
 static uint8_t certificate[JOVNETAL_CERTIFICATE_ROOM];
 static uint8_t slots[JOVNETAL_TRACE_ROOM];
 static uint8_t apart[JOVNETAL_PLAN_ROOM];
+static uint8_t both[JOVNETAL_PLAN_ROOM];
 
 static int failures;
 
@@ -33,6 +34,7 @@ static int all(const uint8_t *bytes, size_t length, uint8_t value) {
 int main(void) {
     static const uint8_t traced[] = {2, 0, 0, 1, 0, 1, 0, 0, 0};
     static const uint8_t gap[] = {1, 1, 1, 1, 1, 2, 2, 3, 2, 1, 3, 2, 4, 0, 0, 0, 4, 0, 1, 1, 4, 0, 2, 0, 4, 0, 3, 1, 4, 1, 0, 0, 4, 1, 2, 0, 5};
+    static const uint8_t other[] = {1, 1, 1, 1, 2, 1, 3, 1, 5};
     uint64_t numbers[4] = {7, 7, 7, 7};
     uint64_t n;
 
@@ -60,6 +62,13 @@ int main(void) {
     n = jovnetal_gap(plan, sizeof plan, 1, 2, apart, sizeof apart);
     expect(n == sizeof gap && memcmp(apart, gap, sizeof gap) == 0, "a gap of two slots has two states");
     expect(all(apart + n, sizeof apart - n, 7), "bytes past the plan are as they were");
+
+    memset(both, 7, sizeof both);
+    expect(jovnetal_combine(plan, sizeof plan, other, sizeof other, both, sizeof both) == JOVNETAL_REFUSED + 4, "different tasks are refused with 4");
+    expect(all(both, sizeof both, 7), "and leave the output as it was");
+    n = jovnetal_combine(plan, sizeof plan, gap, sizeof gap, both, sizeof both);
+    expect(n == sizeof gap && memcmp(both, gap, sizeof gap) == 0, "a plan that admits all, with one that keeps a gap, keeps the gap");
+    expect(all(both + n, sizeof both - n, 7), "bytes past the combined plan are as they were");
 
     printf("C: p/q = %llu/%llu, %s\n", (unsigned long long)numbers[0], (unsigned long long)numbers[1], failures ? "FAILED" : "all as said");
     return failures != 0;

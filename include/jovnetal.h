@@ -47,6 +47,13 @@ uint64_t jovnetal_trace(const uint8_t *plan, size_t plan_length, const uint8_t *
    Memory: bytes of out past the last one written keep what they had; after a refusal all do. */
 uint64_t jovnetal_gap(const uint8_t *plan, size_t plan_length, uint64_t task, uint64_t slots, uint8_t *out, size_t out_length);
 
+/* Writes the first plan's tasks and policy to out with an automaton that admits exactly the runs that both plans admit. first and second
+   may be the same bytes.
+   Answers the number of bytes written, or JOVNETAL_REFUSED + n: 11, the first plan's 1 to 4, the second's 1 to 4, 4 for different tasks, 15.
+   Memory: bytes of out past the last one written keep what they had; after a refusal all do. */
+uint64_t jovnetal_combine(const uint8_t *first, size_t first_length, const uint8_t *second, size_t second_length,
+                          uint8_t *out, size_t out_length);
+
 #ifdef __cplusplus
 }
 #endif

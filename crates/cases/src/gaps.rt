@@ -1,39 +1,13 @@
-// Cases of gaps: for each the line of what the call tells, and then every byte of the output.
+// Cases of gaps: for each what the call tells and leaves.
 ghost use mathlib.Core.Path.{_≡_};
-ghost use mathlib.Core.List.{List, _++_};
-ghost use Prim.Native.Nat.{ℕ, _≤_};
+ghost use mathlib.Core.List.{List};
+ghost use Prim.Native.Nat.{ℕ};
 ghost use lib.ListN.{length};
-ghost use Rattle.io.specs.Counts.{Counts};
-ghost use Rattle.model.specs.Bytes.{Put};
 ghost use Rattle.model.specs.Calls.{resultOf, outputAfter};
 ghost use Rattle.model.specs.Gap.{taskGap};
 ghost use Rattle.model.specs.PlanBytes.{planBytes};
-ghost use Rattle.model.specs.Text.{decimal, lineFeed};
-ghost use Rattle.refusals.specs.Told.{resultBy};
 ghost use Rattle.cases.specs.Lines.{resultLine};
-use libc::STDOUT_FILENO;
-use refusals::Answer;
-
-// Writes the line of a number.
-fn put_count(out: &mut [u8], n: usize) -> usize
-    requires { ⌜ 29 ≤ length (now out) ⌝ }
-    ensures { λ r. ⌜ Put (now (out .entry)) (now (out .exit)) 0 (decimal n ++ lineFeed) r ⌝ }
-{
-    let at = text::put_number(out, 0, n as u64);
-    text::put_bytes(out, at, b"\n")
-}
-
-// Writes the line of an answer, and gives its length.
-fn put_result(out: &mut [u8], answer: Answer) -> usize
-    requires { ⌜ 29 ≤ length (now out) ⌝ }
-    ensures { λ r. ⌜ Put (now (out .entry)) (now (out .exit)) 0 (resultLine (resultBy answer)) r ⌝ }
-    ensures { λ r. ⌜ Counts r (now (out .exit)) ⌝ }
-{
-    match answer {
-        Answer::Refused(r) => text::put_refusal(out, r.number()),
-        Answer::Written(n) => put_count(out, n),
-    }
-}
+use super::results;
 
 // Writes what the gap call tells and leaves to standard output, and answers the length of the line.
 fn write_gap(plan: &[u8], task: u64, slots: u64, out: &mut [u8]) -> usize
@@ -41,11 +15,7 @@ fn write_gap(plan: &[u8], task: u64, slots: u64, out: &mut [u8]) -> usize
     ensures { λ _. ⌜ now (out .exit) ≡ outputAfter planBytes (taskGap (now (plan .entry)) task slots (length (now (out .entry)))) (now (out .entry)) ⌝ }
 {
     let answer = gap::rewrite(plan, task, slots, out);
-    let mut line = [0u8; 32];
-    let n = put_result(&mut line, answer);
-    io::write_all(STDOUT_FILENO, &line[..n]);
-    io::write_all(STDOUT_FILENO, out);
-    n
+    results::write_result(answer, out)
 }
 
 // Reads a plan, a task and a gap of eight bytes each, and an output, and writes what the call tells and leaves.

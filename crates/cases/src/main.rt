@@ -1,8 +1,10 @@
 // Runs each case of cases.bin, and writes what its kind writes for it. The file has the number of cases in two bytes, and then
 // for each one byte with its kind and its fields, each behind two bytes of its length.
 mod checks; // checks.rt: a plan and a certificate
+mod combines; // combines.rt: two plans, and an output
 mod gaps; // gaps.rt: a plan, a task and a gap, and an output
 mod plans; // plans.rt: a plan
+mod results; // results.rt: what a call tells and leaves
 mod solves; // solves.rt: a plan and the head of its certificate
 mod traces; // traces.rt: a plan and its labels
 
@@ -17,6 +19,8 @@ const CHECK: u8 = 3;
 const SOLVE: u8 = 4;
 
 const GAP: u8 = 5;
+
+const COMBINE: u8 = 6;
 
 fn main() {
     let mut count = [0u8; 2];
@@ -41,6 +45,9 @@ fn main() {
             }
             GAP => {
                 gaps::gap_case(file);
+            }
+            COMBINE => {
+                combines::combine_case(file);
             }
             _ => {
                 io::write_all(STDOUT_FILENO, b"unknown kind\n");

@@ -12,6 +12,8 @@ use Rattle.model.specs.Check.{Reached, follow, closes, cycleOk}
 use Rattle.model.specs.Graph.{Node, start, nodes, sameNode}
 use Rattle.model.specs.Lists.{sameNumbers}
 use Rattle.model.specs.Plan.{Plan}
+use Rattle.model.proofs.Discovery.{same-back}
+use Rattle.theory.proofs.Nodes.{same-node}
 use Rattle.policy.specs.View.{Tasks, cellCount, Cells}
 use Rattle.graph.specs.View.{nodeOf}
 use Rattle.node.specs.declared.Node as graph
@@ -75,5 +77,5 @@ pub same-end : (ts : Tasks) (m : List ℕ) (n : ℕ) → Holding ts m n → (j :
     Cells ts cellCount (at .cells) → (end : List ℕ) → end ≡ rowOf at → (b : Bool) → b ≡ sameNumbers (rowAt m j) end →
     sameNode (nodeOf ts at) (nodeOf ts from) ≡ b
 same-end ts m n held j below from at is fits end ends b tested =
-    ap (λ (u : graph.Node). sameNode (nodeOf ts at) (nodeOf ts u)) is ∙ row-view ts at fits (rowAt m j) (held-row-at ts m n held j below)
-    ∙ ap (sameNumbers (rowAt m j)) (sym ends) ∙ sym tested
+    same-back sameNode same-node (nodeOf ts at) (nodeOf ts from) ∙ ap (λ (u : graph.Node). sameNode (nodeOf ts u) (nodeOf ts at)) is
+    ∙ row-view ts at fits (rowAt m j) (held-row-at ts m n held j below) ∙ ap (sameNumbers (rowAt m j)) (sym ends) ∙ sym tested

@@ -1,59 +1,56 @@
 -- Nodes join one after another. Assumes nothing.
 use mathlib.Core.Path.{_≡_, refl, sym, ap, subst, _∙_}
-use mathlib.Core.Bool.{Bool, true, false, cond}
 use mathlib.Core.List.{List, [], _∷_, _++_, map, map-append, append-nil, foldl, foldl-append}
 use Prim.Native.Nat.{ℕ, zero, suc, _+_, _-_, _*_, _%_, _^_, _≤_, _<_}
 use native.Mathlib.Nat.{zero-add}
 use native.Mathlib.Omega.{arith}
-use lib.ListN.{length, length-append}
+use lib.ListN.{length}
 use Rattle.words.proofs.Free.{only-refl, only-trans}
+use Rattle.model.specs.Bytes.{Only}
+use Rattle.model.specs.Discovery.{add}
 use Rattle.model.specs.Graph as model
-use Rattle.model.specs.Graph.{among}
+use Rattle.model.specs.Graph.{sameNode}
 use Rattle.model.specs.Limits.{maxNodes, maxTasks}
 use Rattle.model.specs.Lists.{flatMap, upFrom}
 use Rattle.model.proofs.Lists.{upFrom-append, flatMap-append}
 use Rattle.model.specs.Plan.{Plan}
+use Rattle.model.proofs.Discovery.{fold-longer}
+use Rattle.theory.proofs.Nodes.{same-node}
 use Rattle.policy.specs.View.{Tasks, tasksIn}
 use Rattle.policy.specs.declared.Rules.{Rules}
 use Rattle.graph.specs.Outcomes.{patternIn}
 use Rattle.graph.specs.Label.{orderIn}
-use Rattle.graph.specs.View.{addNode}
+use Rattle.store.specs.Store.{storeBytes}
 use Rattle.discovery.specs.Discovery.{nodesIn, Holding, Known, Stored, Adds, nodesWith, Explored, edgesBy, edgesBelow}
 
--- none is lost
-add-longer : (ns : List model.Node) (v : model.Node) → length ns ≤ length (addNode ns v)
-add-longer ns v = by (among v ns)
-  where
-    by : (b : Bool) → length ns ≤ length (cond b ns (ns ++ (v ∷ [])))
-    by true = omega arith
-    by false = omega (arith, length-append ns (v ∷ []))
+-- after other writes to the store, and of equal nodes
+pub known-after : {ts : Tasks} {ns all : List model.Node} {m m′ m″ : List ℕ} {q : ℕ} → Only 0 storeBytes m m′ → ns ≡ all → Known ts ns m′ m″ q →
+    Known ts all m m″ q
+known-after only same then = record {
+  held = λ h. let k = then .held h in (k .0, k .1 ∙ same);
+  many = λ h. subst (λ (l : List model.Node). maxNodes < length l) same (then .many h);
+  only = only-trans only (then .only);
+}
 
--- of one list after another, by what joins for an element
-module _ {E : Type 0} (join : List model.Node → E → List model.Node) (grows : (ns : List model.Node) (e : E) → length ns ≤ length (join ns e)) where
-  fold-longer : (vs : List E) (ns : List model.Node) → length ns ≤ length (foldl join ns vs)
-  fold-longer [] ns = omega arith
-  fold-longer (v ∷ vs) ns = omega (arith, grows ns v, fold-longer vs (join ns v))
+-- one list after another
+module _ (ts : Tasks) (ns vs ws all : List model.Node) (joins : vs ++ ws ≡ all) (m m′ : List ℕ) (r : ℕ)
+    (first : Known ts (foldl (add sameNode) ns vs) m m′ r) where
+  with-all : foldl (add sameNode) (foldl (add sameNode) ns vs) ws ≡ foldl (add sameNode) ns all
+  with-all = sym (foldl-append (add sameNode) ns vs ws) ∙ ap (foldl (add sameNode) ns) joins
 
-  module _ (ts : Tasks) (ns : List model.Node) (vs ws : List E) (m m′ : List ℕ) (r : ℕ) (first : Known ts (foldl join ns vs) m m′ r) where
-    known-then : r ≤ maxNodes → (m″ : List ℕ) (q : ℕ) → Known ts (foldl join (nodesIn ts m′ r) ws) m′ m″ q →
-        Known ts (foldl join ns (vs ++ ws)) m m″ q
-    known-then few m″ q then =
-        let same : foldl join (nodesIn ts m′ r) ws ≡ foldl join ns (vs ++ ws) =
-        ap (λ (l : List model.Node). foldl join l ws) (first .held few .1) ∙ sym (foldl-append join ns vs ws) in
-        record {
-          held = λ h. let k = then .held h in (k .0, k .1 ∙ same);
-          many = λ h. subst (λ (l : List model.Node). maxNodes < length l) same (then .many h);
-          only = only-trans (first .only) (then .only);
-        }
+  known-then : r ≤ maxNodes → (m″ : List ℕ) (q : ℕ) → Known ts (foldl (add sameNode) (nodesIn ts m′ r) ws) m′ m″ q →
+      Known ts (foldl (add sameNode) ns all) m m″ q
+  known-then few m″ q then =
+      known-after (first .only) (ap (λ (l : List model.Node). foldl (add sameNode) l ws) (first .held few .1) ∙ with-all) then
 
-    known-many : maxNodes < r → Known ts (foldl join ns (vs ++ ws)) m m′ r
-    known-many more = record {
-      held = λ h. absurd (omega arith);
-      many = λ h.
-          subst (λ (l : List model.Node). maxNodes < length l) (sym (foldl-append join ns vs ws))
-          (omega (arith, first .many h, fold-longer ws (foldl join ns vs)));
-      only = first .only;
-    }
+  known-many : maxNodes < r → Known ts (foldl (add sameNode) ns all) m m′ r
+  known-many more = record {
+    held = λ h. absurd (omega arith);
+    many = λ h.
+        subst (λ (l : List model.Node). maxNodes < length l) with-all
+        (omega (arith, first .many h, fold-longer sameNode same-node ws (foldl (add sameNode) ns vs)));
+    only = first .only;
+  }
 
 -- none at all
 pub known-none : (ts : Tasks) (m : List ℕ) (n : ℕ) → Holding ts m n → Known ts (nodesIn ts m n) m m n
@@ -85,11 +82,10 @@ module _ (cells : List ℕ) (state : ℕ) (notes m : List ℕ) (n : ℕ) where
     stored = then .stored;
     known = λ ts held fits.
         let one = first .known ts held fits in
-        let same : nodesWith cells state (orderIn notes k) ts ++ nodesWith cells state (p ∷ []) ts ≡ nodesWith cells state (orderIn notes (k + 1)) ts =
-        ap (λ (v : ℕ). nodesWith cells state (orderIn notes k) ts ++ nodesWith cells state (v ∷ []) ts) e ∙ sym (order-more k 1 ts) in
-        subst (λ (l : List model.Node). Known ts (foldl addNode (nodesIn ts m n) l) m m″ q) same
-        (known-then addNode add-longer ts (nodesIn ts m n) (nodesWith cells state (orderIn notes k) ts) (nodesWith cells state (p ∷ []) ts) m m′ r
-        one few m″ q (then .known ts (one .held few .0) fits));
+        let before = nodesWith cells state (orderIn notes k) ts in
+        known-then ts (nodesIn ts m n) before (nodesWith cells state (p ∷ []) ts) (nodesWith cells state (orderIn notes (k + 1)) ts)
+        (ap (λ (v : ℕ). before ++ nodesWith cells state (v ∷ []) ts) e ∙ sym (order-more k 1 ts)) m m′ r one few m″ q
+        (then .known ts (one .held few .0) fits);
   }
 
   pub added-many : (k count : ℕ) (m′ : List ℕ) (r : ℕ) → k ≤ count → maxNodes < r → Added k m′ r → Added count m′ r
@@ -97,40 +93,42 @@ module _ (cells : List ℕ) (state : ℕ) (notes m : List ℕ) (n : ℕ) where
     stored = first .stored;
     known = λ ts held fits.
         let all : k + (count - k) ≡ count = omega arith in
-        subst (λ (l : List model.Node). Known ts (foldl addNode (nodesIn ts m n) l) m m′ r)
-        (sym (order-more k (count - k) ts) ∙ ap (λ (c : ℕ). nodesWith cells state (orderIn notes c) ts) all)
-        (known-many addNode add-longer ts (nodesIn ts m n) (nodesWith cells state (orderIn notes k) ts) (nodesWith cells state (map (patternIn notes) (upFrom k (count - k))) ts) m m′ r (first .known ts held fits) more);
+        known-many ts (nodesIn ts m n) (nodesWith cells state (orderIn notes k) ts) (nodesWith cells state (map (patternIn notes) (upFrom k (count - k))) ts)
+        (nodesWith cells state (orderIn notes count) ts) (sym (order-more k (count - k) ts) ∙ ap (λ (c : ℕ). nodesWith cells state (orderIn notes c) ts) all)
+        m m′ r (first .known ts held fits) more;
   }
 
--- of edges
-module _ (r : Rules) where
-  edge-longer : (ns : List model.Node) (e : model.Edge) → length ns ≤ length (model.add ns e)
-  edge-longer ns e = add-longer ns (e .to)
+-- of edges, by where they lead
+abbrev ends : List model.Edge → List model.Node
+ends es = map (λ e. e .to) es
 
+module _ (r : Rules) where
   pub explored-none : (m : List ℕ) (n : ℕ) → Holding (tasksIn r) m n → Explored r (λ P. []) m n m n
   explored-none m n held = record { known = λ P for. known-none (tasksIn r) m n held }
 
-  module _ (es fs : Plan → List model.Edge) (m : List ℕ) (n : ℕ) (m′ : List ℕ) (q : ℕ) (first : Explored r es m n m′ q) where
-    pub explored-held : q ≤ maxNodes → Holding (tasksIn r) m′ q
-    explored-held few =
-        first .known record { tasks = tasksIn r; policy = r .policy; states = 0; arcs = [] } record { tasks = refl; policy = refl } .held few .0
+  pub explored-held : (es : Plan → List model.Edge) (m : List ℕ) (n : ℕ) (m′ : List ℕ) (q : ℕ) → Explored r es m n m′ q → q ≤ maxNodes → Holding (tasksIn r) m′ q
+  explored-held es m n m′ q first few =
+      first .known record { tasks = tasksIn r; policy = r .policy; states = 0; arcs = [] } record { tasks = refl; policy = refl } .held few .0
 
-    pub explored-then : q ≤ maxNodes → (m″ : List ℕ) (p : ℕ) → Explored r fs m′ q m″ p → Explored r (λ P. es P ++ fs P) m n m″ p
+  module _ (es fs all : Plan → List model.Edge) (joins : (P : Plan) → es P ++ fs P ≡ all P) (m : List ℕ) (n : ℕ) (m′ : List ℕ) (q : ℕ) (first : Explored r es m n m′ q) where
+    ends-join : (P : Plan) → ends (es P) ++ ends (fs P) ≡ ends (all P)
+    ends-join P = sym (map-append (λ e. e .to) (es P) (fs P)) ∙ ap ends (joins P)
+
+    explored-then : q ≤ maxNodes → (m″ : List ℕ) (p : ℕ) → Explored r fs m′ q m″ p → Explored r all m n m″ p
     explored-then few m″ p then = record {
-      known = λ P for.
-          known-then model.add edge-longer (tasksIn r) (nodesIn (tasksIn r) m n) (es P) (fs P) m m′ q (first .known P for) few m″ p (then .known P for);
+      known = λ P for. known-then (tasksIn r) (nodesIn (tasksIn r) m n) (ends (es P)) (ends (fs P)) (ends (all P)) (ends-join P) m m′ q (first .known P for) few m″ p (then .known P for);
     }
 
-    pub explored-many : maxNodes < q → Explored r (λ P. es P ++ fs P) m n m′ q
+    explored-many : maxNodes < q → Explored r all m n m′ q
     explored-many more = record {
-      known = λ P for. known-many model.add edge-longer (tasksIn r) (nodesIn (tasksIn r) m n) (es P) (fs P) m m′ q (first .known P for) more;
+      known = λ P for. known-many (tasksIn r) (nodesIn (tasksIn r) m n) (ends (es P)) (ends (fs P)) (ends (all P)) (ends-join P) m m′ q (first .known P for) more;
     }
 
 -- of edges that are the same
 pub explored-same : (r : Rules) (es fs : Plan → List model.Edge) (m : List ℕ) (n : ℕ) (m′ : List ℕ) (q : ℕ) → ((P : Plan) → es P ≡ fs P) →
     Explored r es m n m′ q → Explored r fs m n m′ q
 explored-same r es fs m n m′ q e x = record {
-  known = λ P for. subst (λ (l : List model.Edge). Known (tasksIn r) (foldl model.add (nodesIn (tasksIn r) m n) l) m m′ q) (e P) (x .known P for);
+  known = λ P for. known-after only-refl (ap (λ (l : List model.Edge). foldl (add sameNode) (nodesIn (tasksIn r) m n) (ends l)) (e P)) (x .known P for);
 }
 
 -- of labels upward
@@ -143,17 +141,16 @@ module _ (r : Rules) (next : List ℕ) (u : model.Node) (m : List ℕ) (n : ℕ)
   pub label-more : (k : ℕ) (m′ : List ℕ) (q : ℕ) → q ≤ maxNodes → Explored r (edgesBelow next u k) m n m′ q → (m″ : List ℕ) (p : ℕ) →
       Explored r (edgesBy next u k) m′ q m″ p → Explored r (edgesBelow next u (k + 1)) m n m″ p
   label-more k m′ q few first m″ p then =
-      explored-same r (λ P. edgesBelow next u k P ++ edgesBy next u k P) (edgesBelow next u (k + 1)) m n m″ p
+      explored-then r (edgesBelow next u k) (edgesBy next u k) (edgesBelow next u (k + 1))
       (λ P. ap (λ (es : List model.Edge). edgesBelow next u k P ++ es) (sym (append-nil (edgesBy next u k P))) ∙ sym (below-more k 1 P))
-      (explored-then r (edgesBelow next u k) (edgesBy next u k) m n m′ q first few m″ p then)
+      m n m′ q first few m″ p then
 
   pub label-many : (k count : ℕ) (m′ : List ℕ) (q : ℕ) → k ≤ count → maxNodes < q → Explored r (edgesBelow next u k) m n m′ q →
       Explored r (edgesBelow next u count) m n m′ q
   label-many k count m′ q le more first =
       let all : k + (count - k) ≡ count = omega arith in
-      explored-same r (λ P. edgesBelow next u k P ++ flatMap (λ l. edgesBy next u l P) (upFrom k (count - k))) (edgesBelow next u count) m n m′ q
-      (λ P. sym (below-more k (count - k) P) ∙ ap (λ (c : ℕ). edgesBelow next u c P) all)
-      (explored-many r (edgesBelow next u k) (λ P. flatMap (λ l. edgesBy next u l P) (upFrom k (count - k))) m n m′ q first more)
+      explored-many r (edgesBelow next u k) (λ P. flatMap (λ l. edgesBy next u l P) (upFrom k (count - k))) (edgesBelow next u count)
+      (λ P. sym (below-more k (count - k) P) ∙ ap (λ (c : ℕ). edgesBelow next u c P) all) m n m′ q first more
 
 -- the number of labels of so many tasks
 pub labels-shifted : (c : ℕ) → c ≤ maxTasks → (1 * 2 ^ c) % 256 ≡ 2 ^ c

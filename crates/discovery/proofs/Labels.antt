@@ -3,14 +3,15 @@ use mathlib.Core.Path.{_≡_, sym, ap, subst, _∙_}
 use mathlib.Core.Option.{some}
 use mathlib.Core.List.{List, map, foldl}
 use Prim.Native.Nat.{ℕ, _/_}
+use Rattle.model.specs.Discovery.{add}
 use Rattle.model.specs.Graph as model
-use Rattle.model.specs.Graph.{choices, joined, edgesTo}
+use Rattle.model.specs.Graph.{choices, joined, edgesTo, sameNode}
 use Rattle.model.specs.Plan.{Plan}
 use Rattle.model.specs.Slot as model-slot
 use Rattle.policy.specs.View.{Tasks, jobsOf, tasksIn, PlanFor, Slotted}
 use Rattle.policy.specs.declared.Rules.{Rules}
 use Rattle.policy.specs.declared.Done.{Done}
-use Rattle.graph.specs.View.{nodeOf, addNode}
+use Rattle.graph.specs.View.{nodeOf}
 use Rattle.node.specs.declared.Node.{Node}
 use Rattle.graph.proofs.Outcomes.{firsts}
 use Rattle.graph.proofs.Adding.{add-patterns}
@@ -31,10 +32,10 @@ label-explored r u l s d ps m n m′ q order slotted held adds = record {
     patterns ts = firsts (map (λ ms. joined (u .taken) ms / 2) (choices ts l (u .taken)))
 
     after : List model-slot.Job → List ℕ → List model.Node
-    after js qs = foldl addNode ns (map (λ p. record { jobs = js; taken = p; state = s }) qs)
+    after js qs = foldl (add sameNode) ns (map (λ p. record { jobs = js; taken = p; state = s }) qs)
 
     same : (P : Plan) → PlanFor P r →
-        foldl addNode ns (nodesWith (d .cells) s ps (tasksIn r)) ≡ foldl model.add ns (edgesTo P (nodeOf (tasksIn r) u) l (some s))
+        foldl (add sameNode) ns (nodesWith (d .cells) s ps (tasksIn r)) ≡ foldl (add sameNode) ns (map (λ e. e .to) (edgesTo P (nodeOf (tasksIn r) u) l (some s)))
     same P for =
         ap (after (jobsOf (tasksIn r) (d .cells))) order
         ∙ ap (λ (js : List model-slot.Job). after js (patterns (tasksIn r))) (ap (λ (e : model-slot.Done). e .jobs) (slotted .rule P (for .tasks) (for .policy)))

@@ -1,20 +1,22 @@
 -- Adding a node's row to rows is adding the node to their nodes. Assumes nothing.
-use mathlib.Core.Path.{_≡_, refl, sym, ap, subst, _∙_}
-use mathlib.Core.Bool.{Bool, true, false, cond, _||_}
+use mathlib.Core.Path.{_≡_, refl, sym, ap, ap₂, subst, _∙_}
+use mathlib.Core.Bool.{Bool, true, false, cond}
 use mathlib.Core.List.{List, [], _∷_, _++_, map, map-append}
 use Prim.Native.Nat.{ℕ, suc, _+_, _*_, _≤_, _<_}
 use native.Mathlib.Omega.{arith}
-use lib.Dec.{T, ltb}
+use lib.Dec.{ltb}
 use lib.Seq.{getD-append-seam}
 use lib.ListN.{length, getD, length-append, length-map, List·getD-append}
-use borrow.Author.Tests.{ltb-true, ltb-false, lt-ltb, le-ltb}
+use borrow.Author.Tests.{ltb-true, ltb-false}
+use Rattle.model.specs.Discovery.{among, add, numberIn}
 use Rattle.model.specs.Graph as model
-use Rattle.model.specs.Graph.{sameNode, among}
+use Rattle.model.specs.Graph.{sameNode}
 use Rattle.model.specs.Limits.{maxNodes}
 use Rattle.model.specs.Lists.{sameNumbers}
+use Rattle.model.proofs.Discovery.{among-number}
 use Rattle.theory.proofs.Nodes.{same-node}
 use Rattle.policy.specs.View.{Tasks, cellCount, Cells}
-use Rattle.graph.specs.View.{nodeOf, addNode}
+use Rattle.graph.specs.View.{nodeOf}
 use Rattle.node.specs.declared.Node.{Node}
 use Rattle.graph.proofs.View.{same-view}
 use Rattle.words.proofs.Memory.{part-length}
@@ -22,7 +24,7 @@ use Rattle.store.specs.declared.Found.{Found}
 use Rattle.store.specs.declared.Found.the-variants.{Full, At}
 use Rattle.store.specs.Store.{rowBytes, maxRows, rowAt, rowsIn, indexIn, Distinct, Indexed, rowsWith, foundIn, countAfter, Kept}
 use Rattle.store.proofs.Rows.{rows-length, rows-at}
-use Rattle.model.proofs.Tests.{is-true, holds, same-test, same-numbers}
+use Rattle.model.proofs.Tests.{same-decided, same-numbers}
 use Rattle.discovery.specs.Discovery.{rowOf, nodeIn, viewOf, nodesIn, Holding, countIn, Known, Stored, Adds}
 use Rattle.discovery.proofs.Rows.{row-node, node-row, row-length}
 
@@ -31,43 +33,35 @@ pub record Row (ts : Tasks) (row : List ℕ) : Type 0 where
   pub size : length row ≡ rowBytes
   pub cells : Cells ts cellCount (nodeIn row .cells)
 
-ltb-suc : (a b : ℕ) → ltb (suc a) (suc b) ≡ ltb a b
-ltb-suc a b = by (ltb a b) refl
-  where
-    by : (t : Bool) → ltb a b ≡ t → ltb (suc a) (suc b) ≡ t
-    by true e = lt-ltb (suc a) (suc b) (omega (arith, ltb-true a b e))
-    by false e = le-ltb (suc a) (suc b) (omega (arith, ltb-false a b e))
-
 module _ (ts : Tasks) (u : Node) (fits : Cells ts cellCount (u .cells)) where
+  own-view : viewOf ts (rowOf u) ≡ nodeOf ts u
+  own-view = ap (nodeOf ts) (node-row u (fits .size))
+
   -- rows are equal just if the nodes of the model are
-  pub row-view : (row : List ℕ) → Row ts row → sameNode (nodeOf ts u) (viewOf ts row) ≡ sameNumbers row (rowOf u)
-  row-view row ok = same-test (sameNode (nodeOf ts u) (viewOf ts row)) (sameNumbers row (rowOf u)) to from
-    where
-      to : T (sameNode (nodeOf ts u) (viewOf ts row)) → T (sameNumbers row (rowOf u))
-      to h =
-          let same = same-view ts u (nodeIn row) fits (ok .cells) .0 (same-node (nodeOf ts u) (viewOf ts row) .0 (is-true _ h)) in
-          let fields : rowOf u ≡ rowOf (nodeIn row) = λ i. same .0 i ++ (same .1 i ∷ same .2 i ∷ []) in
-          holds (same-numbers row (rowOf u) .1 (sym (fields ∙ row-node row (ok .size))))
+  pub row-view : (row : List ℕ) → Row ts row → sameNode (viewOf ts row) (nodeOf ts u) ≡ sameNumbers row (rowOf u)
+  row-view row ok =
+      same-decided (same-node (viewOf ts row) (nodeOf ts u)) (
+        λ h. ap (viewOf ts) (same-numbers row (rowOf u) .0 h) ∙ own-view,
+        λ e.
+            let same = same-view ts (nodeIn row) u (ok .cells) fits .0 e in
+            same-numbers row (rowOf u) .1 (sym (row-node row (ok .size)) ∙ (λ i. same .0 i ++ (same .1 i ∷ same .2 i ∷ []))),
+      )
 
-      from : T (sameNumbers row (rowOf u)) → T (sameNode (nodeOf ts u) (viewOf ts row))
-      from h =
-          holds
-          (same-node (nodeOf ts u) (viewOf ts row) .1
-          (sym (ap (viewOf ts) (same-numbers row (rowOf u) .0 (is-true _ h)) ∙ ap (nodeOf ts) (node-row u (fits .size)))))
-
-  -- a node is among those of the rows just if its row is found
-  pub among-index : (rows : List (List ℕ)) → ((j : ℕ) → j < length rows → Row ts (getD rows j [])) →
-      among (nodeOf ts u) (map (viewOf ts) rows) ≡ ltb (indexIn rows (rowOf u)) (length rows)
+  -- a node's number is that of its row
+  pub number-rows : (rows : List (List ℕ)) → ((j : ℕ) → j < length rows → Row ts (getD rows j [])) →
+      numberIn sameNode (map (viewOf ts) rows) (nodeOf ts u) ≡ indexIn rows (rowOf u)
   unfolding indexIn
-  among-index [] ok = refl
-  among-index (r ∷ rows) ok = by (sameNumbers r (rowOf u)) (row-view r (ok 0 (omega arith))) (among-index rows (λ j h. ok (suc j) (omega arith)))
-    where
-      by : (b : Bool) → sameNode (nodeOf ts u) (viewOf ts r) ≡ b →
-          among (nodeOf ts u) (map (viewOf ts) rows) ≡ ltb (indexIn rows (rowOf u)) (length rows) →
-          among (nodeOf ts u) (map (viewOf ts) (r ∷ rows)) ≡ ltb (cond b 0 (suc (indexIn rows (rowOf u)))) (suc (length rows))
-      by true e later =
-          ap (λ (t : Bool). t || among (nodeOf ts u) (map (viewOf ts) rows)) e ∙ sym (lt-ltb 0 (suc (length rows)) (omega arith))
-      by false e later = ap (λ (t : Bool). t || among (nodeOf ts u) (map (viewOf ts) rows)) e ∙ later ∙ sym (ltb-suc (indexIn rows (rowOf u)) (length rows))
+  number-rows [] ok = refl
+  number-rows (r ∷ rows) ok =
+      let later = number-rows rows (λ j h. ok (suc j) (omega arith)) in
+      let same = row-view r (ok 0 (omega arith)) in
+      λ i. cond (same i) 0 (suc (later i))
+
+  -- so it is among those of the rows just if its row is found
+  among-index : (rows : List (List ℕ)) → ((j : ℕ) → j < length rows → Row ts (getD rows j [])) →
+      among sameNode (nodeOf ts u) (map (viewOf ts) rows) ≡ ltb (indexIn rows (rowOf u)) (length rows)
+  among-index rows ok =
+      among-number sameNode same-node (map (viewOf ts) rows) (nodeOf ts u) ∙ ap₂ ltb (number-rows rows ok) (length-map rows (viewOf ts))
 
   -- its own row
   own-row : Row ts (rowOf u)
@@ -75,9 +69,6 @@ module _ (ts : Tasks) (u : Node) (fits : Cells ts cellCount (u .cells)) where
     size = row-length u (fits .size);
     cells = subst (Cells ts cellCount) (sym (ap (λ (w : Node). w .cells) (node-row u (fits .size)))) fits;
   }
-
-  own-view : viewOf ts (rowOf u) ≡ nodeOf ts u
-  own-view = ap (nodeOf ts) (node-row u (fits .size))
 
   module _ (rows : List (List ℕ)) (ok : (j : ℕ) → j < length rows → Row ts (getD rows j [])) where
     abbrev ns : List model.Node
@@ -95,11 +86,11 @@ module _ (ts : Tasks) (u : Node) (fits : Cells ts cellCount (u .cells)) where
             subst (Row ts) (sym (ap (λ (k : ℕ). getD (rows ++ (rowOf u ∷ [])) k []) last ∙ getD-append-seam rows (rowOf u) [] [])) own-row
 
     -- the row is there: the node is
-    add-there : ltb (indexIn rows (rowOf u)) (length rows) ≡ true → addNode ns (nodeOf ts u) ≡ ns
+    add-there : ltb (indexIn rows (rowOf u)) (length rows) ≡ true → add sameNode ns (nodeOf ts u) ≡ ns
     add-there e = ap (λ (b : Bool). cond b ns (ns ++ (nodeOf ts u ∷ []))) (among-index rows ok ∙ e)
 
     -- it is not: the node joins
-    add-new : ltb (indexIn rows (rowOf u)) (length rows) ≡ false → addNode ns (nodeOf ts u) ≡ ns ++ (nodeOf ts u ∷ [])
+    add-new : ltb (indexIn rows (rowOf u)) (length rows) ≡ false → add sameNode ns (nodeOf ts u) ≡ ns ++ (nodeOf ts u ∷ [])
     add-new e = ap (λ (b : Bool). cond b ns (ns ++ (nodeOf ts u ∷ []))) (among-index rows ok ∙ e)
 
     new-nodes : map (viewOf ts) (rows ++ (rowOf u ∷ [])) ≡ ns ++ (nodeOf ts u ∷ [])
@@ -131,7 +122,7 @@ holding ts m n rows e index distinct ok = record {
 
 module _ (ts : Tasks) (u : Node) (fits : Cells ts cellCount (u .cells)) (m m′ : List ℕ) (n : ℕ) (held : Holding ts m n) where
   abbrev target : List model.Node
-  target = addNode (nodesIn ts m n) (nodeOf ts u)
+  target = add sameNode (nodesIn ts m n) (nodeOf ts u)
 
   abbrev rows : List (List ℕ)
   rows = rowsIn m n
@@ -193,6 +184,6 @@ adds-answer u m m′ n row same r q kept e = record { stored = λ few. stored q 
     stored Full k few = absurd (omega arith)
     stored (At i c) k few = record { index = k .index; distinct = k .distinct }
 
-    known : (ts : Tasks) → Holding ts m n → Cells ts cellCount (u .cells) → Known ts (addNode (nodesIn ts m n) (nodeOf ts u)) m m′ (countIn q)
+    known : (ts : Tasks) → Holding ts m n → Cells ts cellCount (u .cells) → Known ts (add sameNode (nodesIn ts m n) (nodeOf ts u)) m m′ (countIn q)
     known ts held fits =
-        subst (λ (a : Found). Known ts (addNode (nodesIn ts m n) (nodeOf ts u)) m m′ (countIn a)) e (known-kept ts u fits m m′ n held r kept′)
+        subst (λ (a : Found). Known ts (add sameNode (nodesIn ts m n) (nodeOf ts u)) m m′ (countIn a)) e (known-kept ts u fits m m′ n held r kept′)

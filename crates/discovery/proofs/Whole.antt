@@ -1,19 +1,18 @@
 -- The steps of the discovery, and its end. Assumes nothing.
-use mathlib.Core.Path.{_≡_, sym, ap, subst, _∙_}
-use mathlib.Core.Bool.{Bool, cond}
-use mathlib.Core.List.{List, foldl, List·Memᴰ}
-use Prim.Native.Nat.{ℕ, zero, suc, _+_, _-_, _^_, _≤_, _<_}
+use mathlib.Core.Path.{_≡_, sym, ap, ap₂, subst, _∙_}
+use mathlib.Core.List.{List, map, foldl, List·Memᴰ}
+use Prim.Native.Nat.{ℕ, suc, _^_, _≤_, _<_}
 use native.Mathlib.Omega.{arith}
-use lib.ListN.{length, getD, length-append}
-use borrow.Author.Tests.{lt-ltb, le-ltb}
-use Rattle.words.proofs.Free.{only-trans}
-use Rattle.model.specs.Graph.{Node, Edge, start, edges, edgesAt, edgesTo, edgeOf, add, explored, nodes}
+use lib.ListN.{length, getD}
+use Rattle.model.specs.Discovery.{add}
+use Rattle.model.specs.Graph.{Node, Edge, start, edges, edgesAt, edgesTo, edgeOf, sameNode, targets, nodes}
 use Rattle.model.specs.Limits.{maxNodes, maxStates}
 use Rattle.model.specs.Lists.{flatMap, upFrom}
 use Rattle.model.specs.Plan.{Plan, nextIn, IsSound}
 use Rattle.model.specs.Walk.{Walk, here, go}
 use Rattle.model.proofs.Lists.{mem-getD}
-use Rattle.theory.proofs.Nodes.{explored-prefix, explored-reachable}
+use Rattle.model.proofs.Discovery.{found-step, found-all, found-many}
+use Rattle.theory.proofs.Nodes.{same-node, explored, explored-reachable}
 use Rattle.theory.proofs.Edges.{mem-edges}
 use Rattle.theory.proofs.Sound.{sound-plan, nextIn-arc}
 use Rattle.plan.specs.View.{arcsIn}
@@ -22,53 +21,16 @@ use Rattle.policy.specs.declared.Rules.{Rules}
 use Rattle.node.specs.declared.Node as graph
 use Rattle.graph.specs.View.{nodeOf, Planned}
 use Rattle.store.specs.Store.{rowAt}
+use Rattle.discovery.proofs.Growing.{known-after}
 use Rattle.discovery.proofs.Held.{held-count, held-node}
-use Rattle.discovery.specs.Discovery.{nodeIn, nodesIn, Known, Explored, edgesBelow}
+use Rattle.discovery.specs.Discovery.{nodeIn, Known, Explored, edgesBelow}
 
 -- the edges of a node by the table of next states
-pub edges-below : (P : Plan) (next : List ℕ) (count : ℕ) (u : Node) → P .arcs ≡ arcsIn next → length (P .tasks) ≡ count →
+edges-below : (P : Plan) (next : List ℕ) (count : ℕ) (u : Node) → P .arcs ≡ arcsIn next → length (P .tasks) ≡ count →
     edgesBelow next u (2 ^ count) P ≡ edges P u
 unfolding edges edgesAt
 edges-below P next count u arcs size =
     λ i. flatMap (λ l. edgesTo P u l (nextIn (sym arcs i) (u .state) l)) (upFrom 0 (2 ^ sym size i))
-
-module _ (P : Plan) where
-  -- a known node is explored
-  pub explored-step : (k : ℕ) → k < length (explored P k) → foldl add (explored P k) (edges P (getD (explored P k) k start)) ≡ explored P (suc k)
-  unfolding explored
-  explored-step k h =
-      sym (ap (λ (b : Bool). cond b (foldl add (explored P k) (edges P (getD (explored P k) k start))) (explored P k)) (lt-ltb k (length (explored P k)) h))
-
-  -- past the last one nothing joins
-  past : (k : ℕ) → length (explored P k) ≤ k → explored P (suc k) ≡ explored P k
-  unfolding explored
-  past k h = ap (λ (b : Bool). cond b (foldl add (explored P k) (edges P (getD (explored P k) k start))) (explored P k)) (le-ltb k (length (explored P k)) h)
-
-  rest : (k j : ℕ) → length (explored P k) ≤ k → explored P (j + k) ≡ explored P k
-  rest k zero h = ap (explored P) (let e : 0 + k ≡ k = omega arith in e)
-  rest k (suc j) h =
-      let later = rest k j h in
-      ap (explored P) (let e : suc j + k ≡ suc (j + k) = omega arith in e)
-      ∙ past (j + k) (omega (arith, ap length later)) ∙ later
-
-  -- the nodes are those known once all have been explored
-  pub explored-all : (k : ℕ) → k ≤ maxNodes → length (explored P k) ≤ k → explored P k ≡ nodes P
-  unfolding nodes
-  explored-all k few h = sym (rest k (maxNodes - k) h) ∙ ap (explored P) (let e : maxNodes - k + k ≡ maxNodes = omega arith in e)
-
-  longer : (k j : ℕ) → length (explored P k) ≤ length (explored P (j + k))
-  longer k zero = subst (λ (i : ℕ). length (explored P k) ≤ length (explored P i)) (let e : k ≡ 0 + k = omega arith in e) (omega arith)
-  longer k (suc j) =
-      let more = explored-prefix P (j + k) in
-      subst (λ (i : ℕ). length (explored P k) ≤ length (explored P i)) (let e : suc (j + k) ≡ suc j + k = omega arith in e)
-      (omega (arith, longer k j, ap length (more .1), length-append (explored P (j + k)) (more .0)))
-
-  -- too many once are too many in the end
-  pub explored-many : (k : ℕ) → k ≤ maxNodes → maxNodes < length (explored P k) → maxNodes < length (nodes P)
-  unfolding nodes
-  explored-many k few h =
-      subst (λ (i : ℕ). maxNodes < length (explored P i)) (let e : maxNodes - k + k ≡ maxNodes = omega arith in e)
-      (omega (arith, h, longer k (maxNodes - k)))
 
 -- the k-th row is explored next
 module _ (P : Plan) (r : Rules) (for : PlanFor P r) (next : List ℕ) (arcs : P .arcs ≡ arcsIn next) (size : length (P .tasks) ≡ r .count)
@@ -76,20 +38,14 @@ module _ (P : Plan) (r : Rules) (for : PlanFor P r) (next : List ℕ) (arcs : P 
   row-node-at : nodeOf (tasksIn r) (nodeIn (rowAt m k)) ≡ getD (explored P k) k start
   row-node-at = held-node (tasksIn r) m known (explored P k) (held .held few .1) k below
 
-  pub turn : (m′ : List ℕ) (q : ℕ) → Explored r (edgesBelow next (nodeOf (tasksIn r) (nodeIn (rowAt m k))) (2 ^ r .count)) m known m′ q →
+  turn : (m′ : List ℕ) (q : ℕ) → Explored r (edgesBelow next (nodeOf (tasksIn r) (nodeIn (rowAt m k))) (2 ^ r .count)) m known m′ q →
       Known (tasksIn r) (explored P (suc k)) first m′ q
   turn m′ q x =
-      let now = x .known P for in
-      let same : foldl add (nodesIn (tasksIn r) m known) (edgesBelow next (nodeOf (tasksIn r) (nodeIn (rowAt m k))) (2 ^ r .count) P) ≡ explored P (suc k) =
-      ap (λ (l : List Node). foldl add l (edgesBelow next (nodeOf (tasksIn r) (nodeIn (rowAt m k))) (2 ^ r .count) P)) (held .held few .1)
-      ∙ ap (λ (u : Node). foldl add (explored P k) (edgesBelow next u (2 ^ r .count) P)) row-node-at
-      ∙ ap (foldl add (explored P k)) (edges-below P next (r .count) (getD (explored P k) k start) arcs size)
-      ∙ explored-step P k (omega (arith, held-count (tasksIn r) m known (explored P k) (held .held few .1))) in
-      record {
-        held = λ h. let t = now .held h in (t .0, t .1 ∙ same);
-        many = λ h. subst (λ (l : List Node). maxNodes < length l) same (now .many h);
-        only = only-trans (held .only) (now .only);
-      }
+      known-after (held .only)
+      (ap₂ (λ (l : List Node) (es : List Edge). foldl (add sameNode) l (map (λ e. e .to) es)) (held .held few .1)
+      (edges-below P next (r .count) (nodeOf (tasksIn r) (nodeIn (rowAt m k))) arcs size ∙ ap (edges P) row-node-at)
+      ∙ sym (found-step sameNode same-node (targets P) start k (omega (arith, held-count (tasksIn r) m known (explored P k) (held .held few .1)))))
+      (x .known P for)
 
 -- a sound plan's walks stay within the states
 module _ (P : Plan) (s : IsSound P) where
@@ -134,13 +90,15 @@ module _ (r : Rules) (ruled : Ruled r) (next first m : List ℕ) (known k : ℕ)
 -- at the end, the nodes
 module _ (P : Plan) (ts : Tasks) (first m : List ℕ) (q k : ℕ) (few : k ≤ maxNodes) (known : Known ts (explored P k) first m q) where
   pub whole-many : maxNodes < q → Known ts (nodes P) first m q
+  unfolding nodes
   whole-many more = record {
     held = λ h. absurd (omega arith);
-    many = λ h. explored-many P k few (known .many h);
+    many = λ h. found-many sameNode same-node (targets P) start maxNodes k few (known .many h);
     only = known .only;
   }
 
   pub whole-end : q ≤ maxNodes → q ≤ k → Known ts (nodes P) first m q
+  unfolding nodes
   whole-end fits done =
       let size = held-count ts m q (explored P k) (known .held fits .1) in
-      subst (λ (l : List Node). Known ts l first m q) (explored-all P k few (omega (arith, size))) known
+      subst (λ (l : List Node). Known ts l first m q) (found-all sameNode same-node (targets P) start maxNodes k few (omega (arith, size))) known

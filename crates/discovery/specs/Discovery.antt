@@ -6,14 +6,16 @@ use mathlib.Core.List.{List, [], _∷_, _++_, map, foldl}
 use Prim.Native.Nat.{ℕ, _+_, _<_, _≤_}
 use lib.ListN.{length, getD, take}
 use Rattle.model.specs.Bytes.{Only}
+use Rattle.model.specs.Discovery.{add}
 use Rattle.model.specs.Graph as model
+use Rattle.model.specs.Graph.{sameNode}
 use Rattle.model.specs.Limits.{maxNodes}
 use Rattle.model.specs.Lists.{flatMap, upFrom}
 use Rattle.model.specs.Plan.{Plan, nextIn}
 use Rattle.plan.specs.View.{arcsIn}
 use Rattle.policy.specs.View.{Tasks, cellCount, jobsOf, Cells, tasksIn, PlanFor}
 use Rattle.policy.specs.declared.Rules.{Rules}
-use Rattle.graph.specs.View.{nodeOf, addNode, Planned}
+use Rattle.graph.specs.View.{nodeOf, Planned}
 use Rattle.node.specs.declared.Node.{Node}
 use Rattle.store.specs.declared.Found.{Found}
 use Rattle.store.specs.declared.Found.the-variants.{Full, At}
@@ -71,7 +73,7 @@ pub record Stored (memory : List ℕ) (n : ℕ) : Type 0 where
 -- the nodes vs, whose cells are these, join those of n rows: then there are r rows
 pub record Adds (cells : List ℕ) (vs : Tasks → List model.Node) (before : List ℕ) (n : ℕ) (after : List ℕ) (r : ℕ) : Type 0 where
   pub stored : r ≤ maxNodes → Stored after r
-  pub known : (ts : Tasks) → Holding ts before n → Cells ts cellCount cells → Known ts (foldl addNode (nodesIn ts before n) (vs ts)) before after r
+  pub known : (ts : Tasks) → Holding ts before n → Cells ts cellCount cells → Known ts (foldl (add sameNode) (nodesIn ts before n) (vs ts)) before after r
 
 -- the nodes with these cells and this state, one for each pattern
 abbrev pub nodeWith : Tasks → List ℕ → ℕ → ℕ → model.Node
@@ -82,7 +84,7 @@ nodesWith cells state ps ts = map (nodeWith ts cells state) ps
 
 -- the targets of these edges join the nodes of n rows
 pub record Explored (r : Rules) (edgesOf : Plan → List model.Edge) (before : List ℕ) (n : ℕ) (after : List ℕ) (q : ℕ) : Type 0 where
-  pub known : (P : Plan) → PlanFor P r → Known (tasksIn r) (foldl model.add (nodesIn (tasksIn r) before n) (edgesOf P)) before after q
+  pub known : (P : Plan) → PlanFor P r → Known (tasksIn r) (foldl (add sameNode) (nodesIn (tasksIn r) before n) (map (λ e. e .to) (edgesOf P))) before after q
 
 -- the edges of a label, and of the first k labels, by the table of next states
 abbrev pub edgesBy : List ℕ → model.Node → ℕ → Plan → List model.Edge

@@ -4,10 +4,12 @@ use mathlib.Core.List.{List, [], _∷_}
 use Prim.Native.Nat.{ℕ, _+_, _<_}
 use lib.ListN.{length, take}
 use Rattle.model.specs.Check.{CheckAnswer}
-use Rattle.model.specs.Calls.{Result, refused, written, resultOf, outputAfter}
+use Rattle.model.specs.Calls.{Result, Writing, refused, written, resultOf, outputAfter}
+use Rattle.model.specs.Combine.{combine, AdmitsBoth, ManyReached}
 use Rattle.model.specs.Gap.{isTask, taskGap, HasGap}
 use Rattle.model.specs.Plan.{Plan, sound, readPlan}
 use Rattle.model.specs.PlanBytes.{planBytes}
+use Rattle.model.specs.Refusals.{tooManyPairs}
 use Rattle.solver.specs.declared.Answer as solver
 use Rattle.solver.specs.declared.Answer.the-variants as solved
 use Rattle.refusals.specs.Numbers.{refusalNumber}
@@ -39,8 +41,18 @@ pub record SolvesAs (plan work work′ out out′ : List ℕ) (r : ℕ) : Type 0
   pub code : r ≡ solveCode answer
   pub solves : Solves plan work work′ out out′ answer
 
--- the gap call's promise by that number: its answer and output are the definition's, and bytes that were written have the gap
+-- the call does what is due: the number that it answers, and what the output then holds
+pub record TellsAs {A : Type 0} (spell : A → List ℕ) (due : Writing A) (out out′ : List ℕ) (r : ℕ) : Type 0 where
+  pub code : r ≡ codeOf (resultOf spell due)
+  pub output : out′ ≡ outputAfter spell due out
+
+-- the gap call's promise by that number: what is due, and bytes that were written have the gap
 pub record RewritesAs (plan : List ℕ) (task slots : ℕ) (out out′ : List ℕ) (r : ℕ) : Type 0 where
-  pub code : r ≡ codeOf (resultOf planBytes (taskGap plan task slots (length out)))
-  pub output : out′ ≡ outputAfter planBytes (taskGap plan task slots (length out)) out
+  pub tells : TellsAs planBytes (taskGap plan task slots (length out)) out out′ r
   pub kept : (P : Plan) → readPlan plan ≡ sound P → r < 65536 → HasGap P (isTask task) slots (take r out′)
+
+-- the combine call's: what is due; bytes that were written admit what both plans admit; and where 15 is told, too many pairs are reached
+pub record CombinesAs (first second out out′ : List ℕ) (r : ℕ) : Type 0 where
+  pub tells : TellsAs planBytes (combine first second (length out)) out out′ r
+  pub admitted : (P Q : Plan) → readPlan first ≡ sound P → readPlan second ≡ sound Q → r < 65536 → AdmitsBoth P Q (take r out′)
+  pub many : (P Q : Plan) → readPlan first ≡ sound P → readPlan second ≡ sound Q → r ≡ 65536 + tooManyPairs → ManyReached P Q

@@ -4,11 +4,10 @@ ghost use mathlib.Core.Path.{_≡_};
 ghost use lib.Dec.{leb};
 ghost use lib.ListN.{length};
 ghost use Rattle.model.specs.Bytes.{workAfter};
-ghost use Rattle.model.specs.Calls.{resultOf, outputAfter};
 ghost use Rattle.model.specs.Check.{check};
 ghost use Rattle.model.specs.Limits.{workRoom};
-ghost use Rattle.model.specs.Trace as model-trace;
-ghost use Rattle.exports.specs.Codes.{codeOf, checkCode, numbersAfter, SolvesAs, RewritesAs};
+ghost use Rattle.model.specs.Trace.{trace, traceBytes};
+ghost use Rattle.exports.specs.Codes.{codeOf, checkCode, numbersAfter, TellsAs, SolvesAs, RewritesAs, CombinesAs};
 ghost use Rattle.refusals.specs.Told.{resultBy};
 
 // The number of bytes written, or 65,536 and the number of the refusal.
@@ -24,8 +23,7 @@ fn code(answer: Answer) -> u64
 // The trace call: the number of bytes written, or 65,536 and the number of the refusal.
 #[no_mangle]
 pub extern "C" fn jovnetal_trace(plan: &[u8], labels: &[u8], out: &mut [u8]) -> u64
-    ensures { λ r. ⌜ r ≡ codeOf (resultOf model-trace.traceBytes (model-trace.trace (now (plan .entry)) (now (labels .entry)) (length (now (out .entry))))) ⌝ }
-    ensures { λ _. ⌜ now (out .exit) ≡ outputAfter model-trace.traceBytes (model-trace.trace (now (plan .entry)) (now (labels .entry)) (length (now (out .entry)))) (now (out .entry)) ⌝ }
+    ensures { λ r. ⌜ TellsAs traceBytes (trace (now (plan .entry)) (now (labels .entry)) (length (now (out .entry)))) (now (out .entry)) (now (out .exit)) r ⌝ }
 {
     code(tracer::trace(plan, labels, out))
 }
@@ -70,4 +68,12 @@ pub extern "C" fn jovnetal_gap(plan: &[u8], task: u64, slots: u64, out: &mut [u8
     ensures { λ r. ⌜ RewritesAs (now (plan .entry)) task slots (now (out .entry)) (now (out .exit)) r ⌝ }
 {
     code(gap::rewrite(plan, task, slots, out))
+}
+
+// The combine call: the number of bytes written, or 65,536 and the number of the refusal.
+#[no_mangle]
+pub extern "C" fn jovnetal_combine(first: &[u8], second: &[u8], out: &mut [u8]) -> u64
+    ensures { λ r. ⌜ CombinesAs (now (first .entry)) (now (second .entry)) (now (out .entry)) (now (out .exit)) r ⌝ }
+{
+    code(combine::rewrite(first, second, out))
 }

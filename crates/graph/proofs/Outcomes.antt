@@ -3,7 +3,6 @@
 -- Assumes nothing.
 use mathlib.Core.Path.{_≡_, refl, sym, _∙_, ap, ap₂}
 use mathlib.Core.Logic.{_↔_, _⊎_, inl, inr, ⊎-elim}
-use mathlib.Core.Bool.{Bool, true, false, cond, _||_, false≢true, or-comm, or-assoc, or-true}
 use mathlib.Core.List.{List, [], _∷_, _++_, map, map-map, foldl, List·Memᴰ, List·Memᴰ·head, List·Memᴰ·tail, List·Memᴰ·not-nil, List·Memᴰ·cases-cons, Memᴰ·map, Memᴰ·of-map}
 use Prim.Native.Nat.{ℕ, suc, _+_, _/_, _^_, _<_, _≤_}
 use native.Mathlib.Decide.{decLt}
@@ -13,13 +12,16 @@ use lib.Dec.{eqb, ltb}
 use lib.ListN.{length, getD, set, replicate, length-set, length-replicate, getD-replicate, List·getD-eq-default}
 use lib.Pow.{pow-mono}
 use lib.Seq.{getD-set-same, getD-set-other}
-use borrow.Author.Tests.{lt-ltb, eq-eqb, ne-eqb, eqb-true}
+use borrow.Author.Tests.{lt-ltb}
 use Rattle.model.specs.Check.{padded}
+use Rattle.model.specs.Discovery.{among, add}
 use Rattle.model.specs.Graph.{choices, joined, worth}
 use Rattle.model.specs.Limits.{maxWindow}
 use Rattle.model.specs.Masks.{maskCount}
+use Rattle.model.proofs.Tests.{same-number}
 use Rattle.policy.specs.View.{Tasks, TasksInRange}
 use Rattle.policy.proofs.Cells.{window-low}
+use Rattle.model.proofs.Discovery.{fold-either, fold-holds, add-own, add-other}
 use Rattle.theory.proofs.Edges.{mem-choices}
 use Rattle.graph.specs.Outcomes.{patternCount, Outcome, outcomeOf, outcomes, Best, Notes, notNoted, note, notedOf, nothingNoted}
 use Rattle.graph.proofs.Notes.{bestOf, note-less, note-better, note-first}
@@ -150,81 +152,54 @@ fold-from k (o ∷ os) n size below p =
 
 -- ---- the order
 
-abbrev pub isIn : ℕ → List ℕ → Bool
-isIn p [] = false
-isIn p (x ∷ l) = eqb p x || isIn p l
-
--- a number joins those before it unless it is among them
-abbrev pub addFirst : List ℕ → ℕ → List ℕ
-addFirst l p = cond (isIn p l) l (l ++ (p ∷ []))
-
 -- numbers in the order of their first occurrence
 unfoldable pub firsts : List ℕ → List ℕ
-firsts ps = foldl addFirst [] ps
+firsts ps = foldl (add eqb) [] ps
 
-isIn-snoc : (q : ℕ) (l : List ℕ) (p : ℕ) → isIn q (l ++ (p ∷ [])) ≡ (isIn q l || eqb q p)
-isIn-snoc q [] p = or-comm (eqb q p) false
-isIn-snoc q (x ∷ l) p = ap (λ b. eqb q x || b) (isIn-snoc q l p) ∙ sym (or-assoc (eqb q x) (isIn q l) (eqb q p))
-
-pub isIn-mem : (p : ℕ) (l : List ℕ) → (isIn p l ≡ true) ↔ List·Memᴰ p l
-isIn-mem p [] = (λ e. absurd (false≢true e), λ m. absurd (List·Memᴰ·not-nil m))
-isIn-mem p (x ∷ l) = (
-  to (isIn-mem p l .0) (eqb p x) refl,
-  λ m. ⊎-elim (λ e. rw (eq-eqb p x e)) (λ h. rw (isIn-mem p l .1 h) (or-true (eqb p x))) (List·Memᴰ·cases-cons m),
-)
-  where
-    to : (isIn p l ≡ true → List·Memᴰ p l) → (b : Bool) → eqb p x ≡ b → (b || isIn p l) ≡ true → List·Memᴰ p (x ∷ l)
-    to rest true e h = List·Memᴰ·head (eqb-true p x e)
-    to rest false e h = List·Memᴰ·tail (rest h)
+-- they are the same numbers
+pub firsts-mem : (ps : List ℕ) (p : ℕ) → List·Memᴰ p (firsts ps) ↔ List·Memᴰ p ps
+unfolding firsts
+firsts-mem ps p =
+    (λ m. ⊎-elim (λ k. absurd (List·Memᴰ·not-nil k)) (λ k. k) (fold-either eqb same-number ps [] p m), fold-holds eqb same-number ps [] p)
 
 -- a pattern is in the order just where it has a score
 abbrev Agrees : Notes → Type 0
-Agrees n = (q : ℕ) → q < length (n .best) → isIn q (n .order) ≡ ltb 0 (scoreAt n q)
+Agrees n = (q : ℕ) → q < length (n .best) → among eqb q (n .order) ≡ ltb 0 (scoreAt n q)
 
 module _ (n : Notes) (o : Outcome) (agrees : Agrees n) (below : o .pattern < length (n .best)) where
-  note-order : note n o .order ≡ addFirst (n .order) (o .pattern)
+  note-order : note n o .order ≡ add eqb (n .order) (o .pattern)
   note-order = by (cases n o)
     where
-      by : Case n o → note n o .order ≡ addFirst (n .order) (o .pattern)
+      by : Case n o → note n o .order ≡ add eqb (n .order) (o .pattern)
       by (less h e) = rw (e, agrees (o .pattern) below, lt-ltb 0 (scoreAt n (o .pattern)) (omega arith))
       by (better h p e) = rw (e, agrees (o .pattern) below, lt-ltb 0 (scoreAt n (o .pattern)) p)
       by (first z e) = rw (e, agrees (o .pattern) below, z)
 
   note-agrees : Agrees (note n o)
-  note-agrees q h =
-      ap (isIn q) note-order ∙ by (isIn (o .pattern) (n .order)) refl (decLt q (o .pattern)) (decLt (o .pattern) q)
+  note-agrees q h = ap (among eqb q) note-order ∙ by (decLt q (o .pattern)) (decLt (o .pattern) q)
     where
-      old : q < length (n .best)
-      old = omega (arith, note-length n o)
+      Agreed : Type 0
+      Agreed = among eqb q (add eqb (n .order) (o .pattern)) ≡ ltb 0 (scoreAt (note n o) q)
 
-      is : q ≡ o .pattern → ltb 0 (scoreAt (note n o) q) ≡ true
-      is e = rw e (lt-ltb 0 (scoreAt (note n o) (o .pattern)) (omega (arith, note-least n o below)))
+      other : (q ≡ o .pattern → ⊥) → Agreed
+      other ne =
+          add-other eqb same-number (n .order) q (o .pattern) ne ∙ agrees q (omega (arith, note-length n o))
+          ∙ ap (λ (b : Best). ltb 0 (b .score)) (sym (note-other n o q ne))
 
-      other : (q ≡ o .pattern → ⊥) → isIn q (n .order) ≡ ltb 0 (scoreAt (note n o) q)
-      other ne = agrees q old ∙ ap (λ (b : Best). ltb 0 (b .score)) (sym (note-other n o q ne))
-
-      apart : (b : Bool) → (q ≡ o .pattern → ⊥) → isIn q (cond b (n .order) (n .order ++ (o .pattern ∷ []))) ≡ ltb 0 (scoreAt (note n o) q)
-      apart true ne = other ne
-      apart false ne = isIn-snoc q (n .order) (o .pattern) ∙ rw (ne-eqb q (o .pattern) ne) (or-comm (isIn q (n .order)) false ∙ other ne)
-
-      same : (b : Bool) → isIn (o .pattern) (n .order) ≡ b → q ≡ o .pattern
-          → isIn q (cond b (n .order) (n .order ++ (o .pattern ∷ []))) ≡ ltb 0 (scoreAt (note n o) q)
-      same true t e = ap (λ k. isIn k (n .order)) e ∙ t ∙ sym (is e)
-      same false t e = isIn-snoc q (n .order) (o .pattern) ∙ rw (eq-eqb q (o .pattern) e) (or-true (isIn q (n .order))) ∙ sym (is e)
-
-      by : (b : Bool) → isIn (o .pattern) (n .order) ≡ b → Dec (q < o .pattern) → Dec (o .pattern < q)
-          → isIn q (cond b (n .order) (n .order ++ (o .pattern ∷ []))) ≡ ltb 0 (scoreAt (note n o) q)
-      by b t (yes l) d = apart b (λ e. omega arith)
-      by b t (no l) (yes l′) = apart b (λ e. omega arith)
-      by b t (no l) (no l′) = same b t (omega arith)
+      by : Dec (q < o .pattern) → Dec (o .pattern < q) → Agreed
+      by (yes l) d = other (λ e. omega arith)
+      by (no l) (yes l′) = other (λ e. omega arith)
+      by (no l) (no l′) =
+          let e : q ≡ o .pattern = omega arith in
+          rw e (add-own eqb same-number (n .order) (o .pattern) ∙ sym (lt-ltb 0 (scoreAt (note n o) (o .pattern)) (omega (arith, note-least n o below))))
 
 fold-order : (k : ℕ) (os : List Outcome) (n : Notes) → length (n .best) ≡ k → Below k os → Agrees n
-    → foldl note n os .order ≡ foldl addFirst (n .order) (map (λ (o : Outcome). o .pattern) os)
+    → foldl note n os .order ≡ foldl (add eqb) (n .order) (map (λ (o : Outcome). o .pattern) os)
 fold-order k [] n size below agrees = refl
 fold-order k (o ∷ os) n size below agrees =
     let here : o .pattern < length (n .best) = omega (arith, below o (List·Memᴰ·head refl)) in
     fold-order k os (note n o) (note-length n o ∙ size) (λ a m. below a (List·Memᴰ·tail m)) (note-agrees n o agrees here)
-    ∙ ap (λ l. foldl addFirst l (map (λ (o : Outcome). o .pattern) os)) (note-order n o agrees here)
+    ∙ ap (λ l. foldl (add eqb) l (map (λ (o : Outcome). o .pattern) os)) (note-order n o agrees here)
 
 -- ---- from nothing
 
@@ -246,7 +221,7 @@ unfolding nothingNoted
 no-order = refl
 
 nothing-agrees : Agrees nothingNoted
-nothing-agrees q h = ap (isIn q) no-order ∙ rw (nothing-score q)
+nothing-agrees q h = ap (among eqb q) no-order ∙ rw (nothing-score q)
 
 -- ---- the choices of a label
 
@@ -297,4 +272,4 @@ module _ (ts : Tasks) (range : TasksInRange ts) (l taken : ℕ) (low : taken < m
   unfolding outcomes firsts
   noted-order =
       fold-order patternCount (outcomes ts l taken) nothingNoted nothing-size below nothing-agrees
-      ∙ ap₂ (foldl addFirst) no-order (map-map (λ (o : Outcome). o .pattern) (outcomeOf ts taken) (choices ts l taken))
+      ∙ ap₂ (foldl (add eqb)) no-order (map-map (λ (o : Outcome). o .pattern) (outcomeOf ts taken) (choices ts l taken))

@@ -1,7 +1,6 @@
 -- What a node stands for.
 use mathlib.Core.Path.{_≡_}
-use mathlib.Core.Bool.{cond}
-use mathlib.Core.List.{List, [], _∷_, _++_}
+use mathlib.Core.List.{List}
 use mathlib.Core.Option.{some}
 use Prim.Native.Nat.{ℕ, _^_, _<_}
 use Rattle.model.specs.Graph as model
@@ -13,10 +12,6 @@ use Rattle.node.specs.declared.Node.{Node}
 
 abbrev pub nodeOf : Tasks → Node → model.Node
 nodeOf ts u = record { jobs = jobsOf ts (u .cells); taken = u .taken; state = u .state }
-
--- a node joins those known unless it is among them
-abbrev pub addNode : List model.Node → model.Node → List model.Node
-addNode ns v = cond (model.among v ns) ns (ns ++ (v ∷ []))
 
 -- a sound plan with these rules and this table of next states
 pub record Planned (P : Plan) (r : Rules) (next : List ℕ) : Type 0 where

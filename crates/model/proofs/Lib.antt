@@ -2,3 +2,5 @@ pub mod Lists
 pub mod Plan
 pub mod Tests
 pub mod All
+pub mod Distinct
+pub mod Discovery

@@ -148,6 +148,15 @@ pub upFrom-append : (k m n : ℕ) → upFrom k (m + n) ≡ upFrom k m ++ upFrom 
 upFrom-append k zero n = rw (zero-add, add-zero)
 upFrom-append k (suc m) n = rw (suc-add, add-suc) (ap (λ l. k ∷ l) (rw suc-add at (upFrom-append (suc k) m n)))
 
+-- the lists of one number more
+pub flatMap-snoc {ℓ} : {B : Type ℓ} (g : ℕ → List B) (n : ℕ) → flatMap g (upFrom 0 (suc n)) ≡ flatMap g (upFrom 0 n) ++ g n
+flatMap-snoc {B = B} g n =
+    ap (λ (k : ℕ). flatMap g (upFrom 0 k)) one-more ∙ ap (flatMap g) (upFrom-append 0 n 1) ∙ flatMap-append g (upFrom 0 n) (upFrom (0 + n) 1)
+    ∙ ap (λ (l : List B). flatMap g (upFrom 0 n) ++ l) (append-nil (g (0 + n)) ∙ ap g (zero-add n))
+  where
+    one-more : suc n ≡ n + 1
+    one-more = omega arith
+
 pub mem-of-upFrom : (k n : ℕ) {a : ℕ} → List·Memᴰ a (upFrom k n) → (k ≤ a) × (a < k + n)
 mem-of-upFrom k zero m = absurd (List·Memᴰ·not-nil m)
 mem-of-upFrom k (suc n) m =

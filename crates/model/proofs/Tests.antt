@@ -1,13 +1,15 @@
 -- Tests as facts and back.
 -- Assumes nothing.
 use mathlib.Core.Path.{_≡_, refl, sym, _∙_, ap, ap₂, subst}
-use mathlib.Core.Bool.{Bool, true, false, _&&_, _||_, false≢true}
+use mathlib.Core.Bool.{Bool, true, false, _&&_, _||_, and-false, false≢true}
 use mathlib.Core.Logic.{_↔_, _⊎_, inl, inr, ⊎-elim}
 use mathlib.Core.List.{List, [], _∷_, List·Memᴰ, List·Memᴰ·head, List·Memᴰ·tail, List·Memᴰ·not-nil, List·Memᴰ·cases-cons}
-use Prim.Native.Nat.{ℕ}
+use Prim.Native.Nat.{ℕ, zero, suc, _<_}
+use native.Mathlib.Omega.{arith}
 use lib.Dec.{T, eqb}
+use lib.ListN.{length, getD}
 use borrow.Author.Tests.{eqb-true, eq-eqb}
-use Rattle.model.specs.Lists.{all, sameNumbers}
+use Rattle.model.specs.Lists.{all, sameBy, sameNumbers}
 use Rattle.model.proofs.Plan.{both}
 
 -- a test that holds is true
@@ -32,6 +34,10 @@ fails e h = subst T e h
 pub same-test : (a b : Bool) → (T a → T b) → (T b → T a) → a ≡ b
 same-test true b f g = sym (is-true b (f tt))
 same-test false b f g = sym (is-false b g)
+
+-- two tests that decide the same are equal
+pub same-decided {ℓ} : {X : Type ℓ} {a b : Bool} → (a ≡ true) ↔ X → (b ≡ true) ↔ X → a ≡ b
+same-decided {a = a} {b = b} f g = same-test a b (λ h. holds (g .1 (f .0 (is-true a h)))) (λ h. holds (f .1 (g .0 (is-true b h))))
 
 -- both tests hold
 pub both-hold : (a b : Bool) → T a → T b → T (a && b)
@@ -78,13 +84,44 @@ all-each f (x ∷ l) =
       λ h. true-and (f x) (all f l) (h x (List·Memᴰ·head refl)) (later .1 (λ a m. h a (List·Memᴰ·tail m))),
     )
 
--- the test of two lists of numbers decides whether they are the same
+-- a test that decides whether two are the same, of two lists one by one
+module _ {ℓ} {A : Type ℓ} (same : A → A → Bool) (decides : (a b : A) → (same a b ≡ true) ↔ (a ≡ b)) where
+  pub same-by : (as′ bs : List A) → (sameBy same as′ bs ≡ true) ↔ (as′ ≡ bs)
+  same-by [] [] = (λ h. refl, λ e. refl)
+  same-by [] (b ∷ bs) = (λ h. absurd (false≢true h), λ e. cc)
+  same-by (a ∷ as′) [] = (λ h. absurd (false≢true h), λ e. cc)
+  same-by (a ∷ as′) (b ∷ bs) =
+      let later = same-by as′ bs in (
+        λ h. let two = both (same a b) (sameBy same as′ bs) h in ap₂ (λ c cs. c ∷ cs) (decides a b .0 (two .0)) (later .0 (two .1)),
+        λ e. true-and (same a b) (sameBy same as′ bs) (decides a b .1 (cc)) (later .1 (cc)),
+      )
+
+-- such a test of two lists by their places
+module _ {ℓ} {A : Type ℓ} (same : A → A → Bool) where
+  pub same-length : (as′ bs : List A) → (length as′ ≡ length bs → ⊥) → sameBy same as′ bs ≡ false
+  same-length [] [] n = absurd (n refl)
+  same-length [] (b ∷ bs) n = refl
+  same-length (a ∷ as′) [] n = refl
+  same-length (a ∷ as′) (b ∷ bs) n = ap (λ t. same a b && t) (same-length as′ bs (λ e. n (ap suc e))) ∙ and-false (same a b)
+
+  pub same-each : (as′ bs : List A) (d e : A) → length as′ ≡ length bs → ((i : ℕ) → i < length as′ → same (getD as′ i d) (getD bs i e) ≡ true) →
+      sameBy same as′ bs ≡ true
+  same-each [] [] d e n h = refl
+  same-each [] (b ∷ bs) d e n h = absurd (omega (arith, n))
+  same-each (a ∷ as′) [] d e n h = absurd (omega (arith, n))
+  same-each (a ∷ as′) (b ∷ bs) d e n h =
+      true-and (same a b) (sameBy same as′ bs) (h 0 (omega arith)) (same-each as′ bs d e (omega (arith, n)) (λ i l. h (suc i) (omega (arith, l))))
+
+  pub same-not : (as′ bs : List A) (d e : A) (i : ℕ) → i < length as′ → i < length bs → same (getD as′ i d) (getD bs i e) ≡ false → sameBy same as′ bs ≡ false
+  same-not [] bs d e i h k f = absurd (omega (arith, h))
+  same-not (a ∷ as′) [] d e i h k f = absurd (omega (arith, k))
+  same-not (a ∷ as′) (b ∷ bs) d e zero h k f = ap (λ t. t && sameBy same as′ bs) f
+  same-not (a ∷ as′) (b ∷ bs) d e (suc i) h k f =
+      ap (λ t. same a b && t) (same-not as′ bs d e i (omega (arith, h)) (omega (arith, k)) f) ∙ and-false (same a b)
+
+-- of two numbers, and of two lists of them
+pub same-number : (a b : ℕ) → (eqb a b ≡ true) ↔ (a ≡ b)
+same-number a b = (eqb-true a b, eq-eqb a b)
+
 pub same-numbers : (as′ bs : List ℕ) → (sameNumbers as′ bs ≡ true) ↔ (as′ ≡ bs)
-same-numbers [] [] = (λ h. refl, λ e. refl)
-same-numbers [] (b ∷ bs) = (λ h. absurd (false≢true h), λ e. cc)
-same-numbers (a ∷ as′) [] = (λ h. absurd (false≢true h), λ e. cc)
-same-numbers (a ∷ as′) (b ∷ bs) =
-    let later = same-numbers as′ bs in (
-      λ h. let two = both (eqb a b) (sameNumbers as′ bs) h in ap₂ (λ c cs. c ∷ cs) (eqb-true a b (two .0)) (later .0 (two .1)),
-      λ e. true-and (eqb a b) (sameNumbers as′ bs) (eq-eqb a b (cc)) (later .1 (cc)),
-    )
+same-numbers = same-by eqb same-number

@@ -10,6 +10,7 @@ use lib.Signed.{leZ}
 use Rattle.model.specs.Limits.{maxTasks, maxP, maxQ, maxPotential, workRoom}
 use Rattle.model.specs.Refusals.{tooManyNodes, badForm, badFraction, badCount, badPotential, badCycle, shortMemory}
 use Rattle.model.specs.Lists.{all, sameNumbers}
+use Rattle.model.specs.Discovery.{numberIn}
 use Rattle.model.specs.Plan.{Plan, PlanAnswer, faulty, sound, readPlan}
 use Rattle.model.specs.Graph.{Node, Edge, start, nodes, tooLarge, edges, sameNode}
 use Rattle.model.specs.Certificate.{Certificate, Step, readCertificate}
@@ -43,14 +44,9 @@ withinLimit z = leb (natAbs z) maxPotential
 abbrev pub weight : ℕ → ℕ → Edge → ℤ
 weight p q e = pos (q * e .kept) -ℤ pos (p * e .ideal)
 
--- a node's number: its place among the nodes
-abbrev pub numberIn : List Node → Node → ℕ
-numberIn [] u = 0
-numberIn (v ∷ vs) u = let later = suc (numberIn vs u) in cond (sameNode v u) 0 later
-
 -- "on every edge from u to v, potential(u) + q × policy gain − p × clairvoyant gain ≥ potential(v)"
 abbrev pub edgeOk : List Node → ℕ → ℕ → List ℤ → ℕ → Edge → Bool
-edgeOk ns p q zs u e = leZ (potentialAt zs (numberIn ns (e .to))) (potentialAt zs u +ℤ weight p q e)
+edgeOk ns p q zs u e = leZ (potentialAt zs (numberIn sameNode ns (e .to))) (potentialAt zs u +ℤ weight p q e)
 
 -- every edge of these nodes, the first of them numbered u
 abbrev pub edgesOkFrom : Plan → List Node → ℕ → ℕ → List ℤ → ℕ → List Node → Bool

@@ -1,13 +1,14 @@
 -- The graph of a plan: nodes, edges, and the order of discovery.
-use Prim.Native.Nat.{ℕ, zero, suc, _+_, _/_, _%_, _^_}
-use mathlib.Core.Bool.{Bool, true, false, cond, _&&_, _||_}
-use mathlib.Core.List.{List, [], _∷_, _++_, map, foldl}
+use Prim.Native.Nat.{ℕ, _+_, _/_, _%_, _^_}
+use mathlib.Core.Bool.{Bool, cond, _&&_}
+use mathlib.Core.List.{List, [], _∷_, map, foldl}
 use mathlib.Core.Option.{Option, none, some}
 use lib.Bits.{bitOr}
 use lib.Dec.{ltb, eqb}
-use lib.ListN.{length, getD}
+use lib.ListN.{length}
 use Rattle.model.specs.Limits.{maxNodes}
-use Rattle.model.specs.Lists.{flatMap, upFrom}
+use Rattle.model.specs.Lists.{flatMap, upFrom, sameBy}
+use Rattle.model.specs.Discovery.{found}
 use Rattle.model.specs.Masks.{masksOf}
 use Rattle.model.specs.Plan.{Task, Plan, nextIn}
 use Rattle.model.specs.Slot.{Job, slot}
@@ -77,34 +78,19 @@ abbrev pub sameJob : Job → Job → Bool
 sameJob a b = eqb (a .task) (b .task) && eqb (a .work) (b .work) && eqb (a .left) (b .left)
 
 abbrev pub sameJobs : List Job → List Job → Bool
-sameJobs [] [] = true
-sameJobs [] (b ∷ bs) = false
-sameJobs (a ∷ as′) [] = false
-sameJobs (a ∷ as′) (b ∷ bs) = sameJob a b && sameJobs as′ bs
+sameJobs = sameBy sameJob
 
 abbrev pub sameNode : Node → Node → Bool
 sameNode u v = sameJobs (u .jobs) (v .jobs) && eqb (u .taken) (v .taken) && eqb (u .state) (v .state)
 
-abbrev pub among : Node → List Node → Bool
-among u [] = false
-among u (v ∷ vs) = sameNode u v || among u vs
+-- where the edges of a node lead, in their order
+abbrev pub targets : Plan → Node → List Node
+targets P u = map (λ e. e .to) (edges P u)
 
--- a node joins those known unless it is among them
-abbrev pub add : List Node → Edge → List Node
-add ns e = cond (among (e .to) ns) ns (ns ++ (e .to ∷ []))
-
--- The nodes known once the first k of them have been explored: "Nodes are numbered in order of discovery: nodes by number,
--- labels upward, choices upward".
-unfoldable pub explored : Plan → ℕ → List Node
-explored P zero = start ∷ []
-explored P (suc k) =
-    let known = explored P k in
-    let more = foldl add known (edges P (getD known k start)) in
-    cond (ltb k (length known)) more known
-
--- "A plan's nodes are the start node and all that edges lead to from it, one edge after another": all of them, where they are at most 1,024
+-- "A plan's nodes are the start node and all that edges lead to from it, one edge after another", "numbered in order of discovery: nodes
+-- by number, labels upward, choices upward": all of them, where they are at most 1,024
 unfoldable pub nodes : Plan → List Node
-nodes P = explored P maxNodes
+nodes P = found sameNode (targets P) start maxNodes
 
 -- "more than 1,024 reachable nodes"
 unfoldable pub tooLarge : Plan → Bool

@@ -1,6 +1,7 @@
 pub mod Limits
 pub mod Refusals
 pub mod Lists
+pub mod Discovery
 pub mod Bytes
 pub mod Plan
 pub mod Slot
@@ -16,5 +17,6 @@ pub mod Calls
 pub mod Trace
 pub mod PlanBytes
 pub mod Gap
+pub mod Combine
 pub mod Text
 pub mod Cases

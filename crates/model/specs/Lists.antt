@@ -2,6 +2,7 @@
 use Prim.Native.Nat.{ℕ, zero, suc, _+_, _/_, _%_, _^_}
 use mathlib.Core.Bool.{Bool, true, false, _&&_}
 use mathlib.Core.List.{List, [], _∷_, _++_}
+use mathlib.Core.Option.{Option, none, some}
 use lib.Dec.{eqb}
 
 module _ {ℓ} {A : Type ℓ} where
@@ -24,6 +25,18 @@ module _ {ℓ} {A : Type ℓ} where
   sumOf f [] = 0
   sumOf f (x ∷ xs) = f x + sumOf f xs
 
+  -- what is there, if anything
+  abbrev pub listOf : Option A → List A
+  listOf none = []
+  listOf (some x) = x ∷ []
+
+  -- the same elements in the same order, by a test of two
+  abbrev pub sameBy : (A → A → Bool) → List A → List A → Bool
+  sameBy same [] [] = true
+  sameBy same [] (y ∷ ys) = false
+  sameBy same (x ∷ xs) [] = false
+  sameBy same (x ∷ xs) (y ∷ ys) = same x y && sameBy same xs ys
+
 module _ {ℓ κ} {A : Type ℓ} {B : Type κ} where
   -- the lists of the elements, one after another
   abbrev pub flatMap : (A → List B) → List A → List B
@@ -41,10 +54,7 @@ sum f zero = 0
 sum f (suc n) = sum f n + f n
 
 abbrev pub sameNumbers : List ℕ → List ℕ → Bool
-sameNumbers [] [] = true
-sameNumbers [] (b ∷ bs) = false
-sameNumbers (a ∷ as′) [] = false
-sameNumbers (a ∷ as′) (b ∷ bs) = eqb a b && sameNumbers as′ bs
+sameNumbers = sameBy eqb
 
 -- 1 for true
 abbrev pub one : Bool → ℕ

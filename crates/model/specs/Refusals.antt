@@ -66,3 +66,7 @@ notAdmitted = 13
 -- 14, a gap of 0 or above 16, or of a task that is not in the plan
 abbrev pub badGap : ℕ
 badGap = 14
+
+-- 15, more than 16 reachable pairs
+abbrev pub tooManyPairs : ℕ
+tooManyPairs = 15

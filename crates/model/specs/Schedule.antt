@@ -3,7 +3,7 @@ use mathlib.Core.Path.{_≡_}
 use Prim.Native.Nat.{ℕ, _+_, _-_, _≤_, _<_}
 use mathlib.Core.Bool.{Bool, true, false, cond}
 use mathlib.Core.List.{List, [], _∷_}
-use mathlib.Core.Option.{none, some}
+use mathlib.Core.Option.{Option, none, some}
 use lib.Dec.{T}
 use lib.ListN.{length, getD}
 use Rattle.model.specs.Lists.{bit, one, sum}
@@ -18,6 +18,11 @@ admitsFrom P (l ∷ ls) s = elim (nextIn (P .arcs) s l) [ none ↦ false | some 
 -- "A plan admits a run when every label is admitted in the state it finds"; "It begins in automaton state 0"
 abbrev pub admits : Plan → List ℕ → Bool
 admits P run = admitsFrom P run 0
+
+-- "the state .. that the label before it left", after all of the labels, if each is admitted
+abbrev pub stateAfter : Plan → List ℕ → ℕ → Option ℕ
+stateAfter P [] s = some s
+stateAfter P (l ∷ ls) s = elim (nextIn (P .arcs) s l) [ none ↦ none | some t ↦ stateAfter P ls t ]
 
 -- the policy's gain over the labels, from its jobs
 abbrev pub gainFrom : Plan → List Job → List ℕ → ℕ

@@ -15,7 +15,7 @@ use Rattle.model.specs.Limits.{maxTasks, maxStates}
 use Rattle.model.specs.Lists.{flatMap, upFrom}
 use Rattle.model.specs.Plan.{Arc}
 use Rattle.model.specs.PlanBytes.{givenArc, arcsOf}
-use Rattle.model.proofs.Lists.{flatMap-none, flatMap-append, upFrom-append, mem-of-upFrom}
+use Rattle.model.proofs.Lists.{flatMap-none, flatMap-snoc, mem-of-upFrom}
 use Rattle.plan.proofs.View.{pair-state, pair-label}
 use Rattle.plan.specs.View.{labelCount, arcAt, arcsBelow, arcsIn, nextOf}
 
@@ -33,18 +33,6 @@ module _ {B : Type 0} (g : ℕ → List B) where
   flatMap-within f k (suc m) (suc n) l same past =
       ap₂ (λ (a b : List B). a ++ b) (same k (omega arith) (omega arith))
       (flatMap-within f (suc k) m n (omega arith) (λ i a b. same i (omega arith) (omega arith)) (λ i a b. past i (omega arith) (omega arith)))
-
-  -- one number more
-  flatMap-snoc : (n : ℕ) → flatMap g (upFrom 0 (suc n)) ≡ flatMap g (upFrom 0 n) ++ g n
-  flatMap-snoc n =
-      ap (λ (k : ℕ). flatMap g (upFrom 0 k)) one-more ∙ ap (flatMap g) (upFrom-append 0 n 1) ∙ flatMap-append g (upFrom 0 n) (upFrom (0 + n) 1)
-      ∙ ap (λ (l : List B). flatMap g (upFrom 0 n) ++ l) (append-nil (g (0 + n)) ∙ ap g from-zero)
-    where
-      one-more : suc n ≡ n + 1
-      one-more = omega arith
-
-      from-zero : 0 + n ≡ n
-      from-zero = omega arith
 
 -- ---- the table as an automaton
 

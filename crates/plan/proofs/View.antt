@@ -9,8 +9,8 @@ use native.Mathlib.Nat.{lt-of-lt-of-le, add-zero, add-suc, add-sub-of-le, suc-in
 use native.Mathlib.Omega.{arith}
 use borrow.Author.Tests.{lt-ltb, le-ltb, le-leb, lt-leb, eq-eqb, ne-eqb, ltb-true, ltb-false, eqb-true, eqb-false}
 use lib.Dec.{leb, ltb, eqb, leb·zero}
-use lib.ListN.{length, getD, take, set, length-map, length-set}
-use lib.Seq.{length-take-le, getD-set-same, getD-set-other}
+use lib.ListN.{length, getD, take, set, length-map, length-set, List·getD-map}
+use lib.Seq.{length-take-le, getD-take, getD-set-same, getD-set-other}
 use lib.Pow.{pow-mono}
 use Rattle.model.specs.Limits.{maxStates}
 use Rattle.model.specs.Plan as model
@@ -19,11 +19,15 @@ use Rattle.model.proofs.Plan.{rising-last, ranged-first, arc-ranged, orElse, or
 use Rattle.plan.specs.declared.Reading.{Reading}
 use Rattle.plan.specs.declared.Task.{Task}
 use Rattle.plan.specs.declared.Outcome.{Outcome}
-use Rattle.plan.specs.View.{taskView, tasksOf, labelCount, pairCount, arcAt, arcsBelow, arcsIn, nextOf, readingOf, fromLeast, faultFromLeast, answerWith, Within, Holds}
+use Rattle.plan.specs.View.{emptyTask, taskView, tasksOf, labelCount, pairCount, arcAt, arcsBelow, arcsIn, nextOf, readingOf, fromLeast, faultFromLeast, answerWith, Within, Holds}
 
 -- as many tasks as the count says
 pub tasks-length : (ts : List Task) (n : ℕ) → n ≤ length ts → length (tasksOf ts n) ≡ n
 tasks-length ts n h = length-map (take n ts) taskView ∙ length-take-le n ts h
+
+-- the model's task at a place
+pub task-given : (ts : List Task) (n i : ℕ) → i < n → taskView (getD ts i emptyTask) ≡ getD (tasksOf ts n) i (taskView emptyTask)
+task-given ts n i h = sym (List·getD-map taskView (take n ts) i emptyTask ∙ ap taskView (getD-take n ts i emptyTask h))
 
 pub task-count : (r : Reading) → Within r → length (tasksOf (r .tasks) (r .count)) ≡ r .count
 task-count r w = tasks-length (r .tasks) (r .count) (omega arith)

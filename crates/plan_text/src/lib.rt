@@ -5,6 +5,7 @@ ghost use lib.ListN.{length};
 ghost use mathlib.Core.Path.{_≡_};
 ghost use Rattle.io.specs.Counts.{Counts};
 ghost use Rattle.model.specs.Bytes.{Put};
+ghost use Rattle.model.specs.Combine.{combine};
 ghost use Rattle.model.specs.Gap.{taskGap};
 ghost use Rattle.model.specs.Limits.{planRoom};
 ghost use Rattle.model.specs.Text.{planText};
@@ -35,5 +36,15 @@ pub fn put_gap(out: &mut [u8], plan: &[u8], task: u64, slots: u64) -> usize
     ensures { λ n. ⌜ Counts n (now (out .exit)) ⌝ }
 {
     let answer = gap::rewrite(plan, task, slots, out);
+    finish(answer, out)
+}
+
+// Writes the plan of two, or the line of a refusal, and answers the number of bytes.
+pub fn put_combined(out: &mut [u8], first: &[u8], second: &[u8]) -> usize
+    requires { ⌜ planRoom ≤ length (now out) ⌝ }
+    ensures { λ n. ⌜ Put (now (out .entry)) (now (out .exit)) 0 (planText (combine (now (first .entry)) (now (second .entry)) (length (now (out .entry))))) n ⌝ }
+    ensures { λ n. ⌜ Counts n (now (out .exit)) ⌝ }
+{
+    let answer = combine::rewrite(first, second, out);
     finish(answer, out)
 }

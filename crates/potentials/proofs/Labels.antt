@@ -9,8 +9,9 @@ use lib.ListN.{getD}
 use lib.Signed.{leZ}
 use borrow.Author.Tests.{leb-true}
 use Rattle.model.specs.Certificate.{Certificate}
-use Rattle.model.specs.Check.{potentialAt, withinLimit, numberIn, edgeOk}
-use Rattle.model.specs.Graph.{choices, joined, worth, edgeOf, edgesAt, nodes}
+use Rattle.model.specs.Check.{potentialAt, withinLimit, edgeOk}
+use Rattle.model.specs.Discovery.{numberIn}
+use Rattle.model.specs.Graph.{choices, joined, worth, edgeOf, edgesAt, sameNode, nodes}
 use Rattle.model.specs.Limits.{maxPotential}
 use Rattle.model.specs.Lists.{all}
 use Rattle.model.specs.Masks.{maskCount}
@@ -100,14 +101,14 @@ module _ (P : Plan) (c : Certificate) (r : Rules) (next m s : List ℕ) (claim :
       -- the test of a pattern and a gain, by the definition
       abbrev ok : ℕ → ℕ → Bool
       ok p g =
-          leZ (potentialAt zs (numberIn (nodes P) (record { jobs = done .jobs; taken = p; state = state })))
+          leZ (potentialAt zs (numberIn sameNode (nodes P) (record { jobs = done .jobs; taken = p; state = state })))
           (potentialAt zs u +ℤ (pos (claim .q * done .gain) -ℤ pos (claim .p * g)))
 
       -- and as the code computes it
       ok-pattern : (p : ℕ) → ok p (gainIn after (d .count) p) ≡ patternOk claim zs after (d .count) m (d .done .cells) state high p
       ok-pattern p =
           ap₂ leZ
-          (ap (λ (js : List model-slot.Job). potentialAt zs (numberIn (nodes P) (record { jobs = js; taken = p; state = state }))) (sym (jobs-left expanded))
+          (ap (λ (js : List model-slot.Job). potentialAt zs (numberIn sameNode (nodes P) (record { jobs = js; taken = p; state = state }))) (sym (jobs-left expanded))
           ∙ ap (potentialAt zs) (node-index P ts m (claim .n) (t .holds) (withPattern (d .done .cells) state p) (reaches .slot .cells)))
           (sym (weight-order (potentialAt zs u) (claim .q * done .gain) (claim .p * gainIn after (d .count) p))
           ∙ ap (λ (g : ℕ). potentialAt zs u +ℤ pos (claim .q * g) -ℤ pos (claim .p * gainIn after (d .count) p)) (sym (gained expanded))
@@ -120,7 +121,7 @@ module _ (P : Plan) (c : Certificate) (r : Rules) (next m s : List ℕ) (claim :
           ∙ all-map (edgeOk (nodes P) (claim .p) (claim .q) zs u) (edgeOf P (nodeOf ts node) label state) (choices ts label (node .taken))
           ∙ ap (λ (l : Tasks). all (λ ms. ok (joined (node .taken) ms / 2) (worth l ms)) (choices ts label (node .taken))) (t .planned .for .tasks)
           ∙ greatest ts (ruled .tasks) label (node .taken) low ok
-          (λ p g h. less-charge (potentialAt zs (numberIn (nodes P) (record { jobs = done .jobs; taken = p; state = state }))) (potentialAt zs u) (claim .q * done .gain) (claim .p) g h)
+          (λ p g h. less-charge (potentialAt zs (numberIn sameNode (nodes P) (record { jobs = done .jobs; taken = p; state = state }))) (potentialAt zs u) (claim .q * done .gain) (claim .p) g h)
           ∙ ap (λ (n : Notes). all (λ p. ok p (getD (n .best) p outcomes.notNoted .score - 1)) (n .order)) (sym (reaches .notes))
           ∙ all-same (λ p. ok p (gainIn after (d .count) p)) (patternOk claim zs after (d .count) m (d .done .cells) state high) (orderIn after (d .count))
           (λ p k. ok-pattern p))

@@ -1,52 +1,27 @@
 -- The numbers of nodes are those of their rows. Assumes nothing.
-use mathlib.Core.Path.{_≡_, refl, sym, ap, subst, _∙_}
-use mathlib.Core.Bool.{false, cond}
-use mathlib.Core.List.{List, [], _∷_, map, List·Memᴰ}
-use Prim.Native.Nat.{ℕ, suc, _<_}
+use mathlib.Core.Path.{_≡_, sym, ap, subst, _∙_}
+use mathlib.Core.Bool.{false}
+use mathlib.Core.List.{List, List·Memᴰ}
+use Prim.Native.Nat.{ℕ, _<_}
 use native.Mathlib.Omega.{arith}
-use lib.Dec.{T}
 use lib.ListN.{length, getD}
 use borrow.Author.Tests.{le-ltb}
-use Rattle.model.specs.Check.{numberIn}
+use Rattle.model.specs.Discovery.{numberIn}
 use Rattle.model.specs.Graph as model
 use Rattle.model.specs.Graph.{start, nodes, tooLarge, sameNode}
 use Rattle.model.specs.Limits.{maxNodes, maxStates}
 use Rattle.model.specs.Plan.{Plan, IsSound}
 use Rattle.model.proofs.Lists.{mem-getD}
-use Rattle.model.proofs.Tests.{is-true, holds, same-test}
-use Rattle.theory.proofs.Nodes.{same-node, number-at, number-getD, nodes-distinct}
+use Rattle.theory.proofs.Nodes.{number-at, number-getD, nodes-distinct}
 use Rattle.policy.specs.View.{Tasks, cellCount, Cells}
 use Rattle.graph.specs.View.{nodeOf}
 use Rattle.node.specs.declared.Node.{Node}
 use Rattle.store.specs.Store.{rowAt, rowsIn, indexIn}
-use Rattle.discovery.specs.Discovery.{rowOf, nodeIn, viewOf, nodesIn, Holding, Holds}
-use Rattle.discovery.proofs.Nodes.{Row, row-view, held-row}
+use Rattle.discovery.specs.Discovery.{rowOf, nodeIn, nodesIn, Holds}
+use Rattle.discovery.proofs.Nodes.{number-rows, held-row}
 use Rattle.discovery.proofs.Held.{held-count, held-node}
 use Rattle.discovery.proofs.Answer.{node-state}
 use Rattle.potentials.specs.Potentials.{Numbered}
-
--- the test of two nodes, the other way round
-same-node-back : (u v : model.Node) → sameNode u v ≡ sameNode v u
-same-node-back u v =
-    same-test (sameNode u v) (sameNode v u) (turn u v) (turn v u)
-  where
-    turn : (a b : model.Node) → T (sameNode a b) → T (sameNode b a)
-    turn a b h = holds (same-node b a .1 (sym (same-node a b .0 (is-true (sameNode a b) h))))
-
--- a node's number is that of its row
-module _ (ts : Tasks) (u : Node) (fits : Cells ts cellCount (u .cells)) where
-  number-rows : (rows : List (List ℕ)) → ((j : ℕ) → j < length rows → Row ts (getD rows j [])) →
-      numberIn (map (viewOf ts) rows) (nodeOf ts u) ≡ indexIn rows (rowOf u)
-  unfolding indexIn
-  number-rows [] ok = refl
-  number-rows (r ∷ rows) ok =
-      let later = number-rows rows (λ j h. ok (suc j) (omega arith)) in
-      let same = same-node-back (viewOf ts r) (nodeOf ts u) ∙ row-view ts u fits r (ok 0 (omega arith)) in
-      λ i. cond (same i) 0 (suc (later i))
-
-  pub number-index : (m : List ℕ) (n : ℕ) → Holding ts m n → numberIn (nodesIn ts m n) (nodeOf ts u) ≡ indexIn (rowsIn m n) (rowOf u)
-  unfolding nodesIn
-  number-index m n held = number-rows (rowsIn m n) (held-row ts m n held)
 
 -- the rows of a plan's nodes
 module _ (P : Plan) (ts : Tasks) (m : List ℕ) (n : ℕ) (held : Holds P ts m n) where
@@ -58,8 +33,10 @@ module _ (P : Plan) (ts : Tasks) (m : List ℕ) (n : ℕ) (held : Holds P ts m n
   node-mem u h = subst (λ (v : model.Node). List·Memᴰ v (nodes P)) (sym (held-node ts m n (nodes P) (held .nodes) u h)) (mem-getD (nodes P) u start (omega (arith, held-count ts m n (nodes P) (held .nodes))))
 
   -- the number of a node among them, by its row
-  pub node-index : (v : Node) → Cells ts cellCount (v .cells) → numberIn (nodes P) (nodeOf ts v) ≡ indexIn (rowsIn m n) (rowOf v)
-  node-index v fits = ap (λ (l : List model.Node). numberIn l (nodeOf ts v)) (sym (held .nodes)) ∙ number-index ts v fits m n (held .rows)
+  pub node-index : (v : Node) → Cells ts cellCount (v .cells) → numberIn sameNode (nodes P) (nodeOf ts v) ≡ indexIn (rowsIn m n) (rowOf v)
+  unfolding nodesIn
+  node-index v fits =
+      ap (λ (l : List model.Node). numberIn sameNode l (nodeOf ts v)) (sym (held .nodes)) ∙ number-rows ts v fits (rowsIn m n) (held-row ts m n (held .rows))
 
   pub index-below : (v : Node) → Cells ts cellCount (v .cells) → List·Memᴰ (nodeOf ts v) (nodes P) → indexIn (rowsIn m n) (rowOf v) < n
   index-below v fits mem = omega (arith, number-at (nodes P) (nodeOf ts v) start mem .0, node-index v fits, held-count ts m n (nodes P) (held .nodes))
@@ -72,7 +49,7 @@ module _ (P : Plan) (ts : Tasks) (m : List ℕ) (n : ℕ) (held : Holds P ts m n
   pub index-is : (v : Node) → Cells ts cellCount (v .cells) → (i : ℕ) → i < n → nodeOf ts v ≡ getD (nodes P) i start →
       indexIn (rowsIn m n) (rowOf v) ≡ i
   index-is v fits i h e =
-      sym (node-index v fits) ∙ ap (numberIn (nodes P)) e
+      sym (node-index v fits) ∙ ap (numberIn sameNode (nodes P)) e
       ∙ number-getD (nodes P) start (nodes-distinct P) i (omega (arith, held-count ts m n (nodes P) (held .nodes)))
 
   -- ---- the node of a row

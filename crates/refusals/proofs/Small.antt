@@ -1,22 +1,22 @@
 -- The numbers of refusals are small. Assumes nothing.
 use Prim.Native.Nat.{_≤_}
 use native.Mathlib.Omega.{arith}
-use Rattle.model.specs.Refusals.{badGap}
+use Rattle.model.specs.Refusals.{tooManyPairs}
 use Rattle.plan.specs.View.{faultNumber}
 use Rattle.plan.specs.declared.Fault.{Fault}
 use Rattle.plan.specs.declared.Fault.the-variants.{BytesEnd, UnknownCommand, OutOfPlace, OutOfRange}
 use Rattle.refusals.specs.declared.Refusal.{Refusal}
-use Rattle.refusals.specs.declared.Refusal.the-variants.{Plan, TooManyNodes, BadForm, BadFraction, BadCount, BadPotential, BadCycle, ShortMemory, TooManyLabels, NotAdmitted, BadGap}
+use Rattle.refusals.specs.declared.Refusal.the-variants.{Plan, TooManyNodes, BadForm, BadFraction, BadCount, BadPotential, BadCycle, ShortMemory, TooManyLabels, NotAdmitted, BadGap, TooManyPairs}
 use Rattle.refusals.specs.Numbers.{refusalNumber}
 
-fault-small : (f : Fault) → faultNumber f ≤ badGap
+fault-small : (f : Fault) → faultNumber f ≤ tooManyPairs
 fault-small BytesEnd = omega arith
 fault-small UnknownCommand = omega arith
 fault-small OutOfPlace = omega arith
 fault-small OutOfRange = omega arith
 
--- 14 is the largest
-pub refusal-small : (r : Refusal) → refusalNumber r ≤ badGap
+-- 15 is the largest
+pub refusal-small : (r : Refusal) → refusalNumber r ≤ tooManyPairs
 refusal-small (Plan f) = fault-small f
 refusal-small TooManyNodes = omega arith
 refusal-small BadForm = omega arith
@@ -28,3 +28,4 @@ refusal-small ShortMemory = omega arith
 refusal-small TooManyLabels = omega arith
 refusal-small NotAdmitted = omega arith
 refusal-small BadGap = omega arith
+refusal-small TooManyPairs = omega arith

@@ -48,6 +48,7 @@ module _ {A : Type 0} where
   pub record WrittenAs (spell : A → List ℕ) (due : Writing A) (after : List ℕ) (n : ℕ) : Type 0 where
     pub what : A
     pub isDue : due ≡ writes what
+    pub size : n ≡ length (spell what)
     pub bytes : take n after ≡ spell what
 
   pub told-bytes : (spell : A → List ℕ) (due : Writing A) (before after : List ℕ) (n : ℕ) → Told spell due before after (Written n) → WrittenAs spell due after n
@@ -55,7 +56,12 @@ module _ {A : Type 0} where
   told-bytes spell (refuses m) before after n t = let k = t .answer in let z : _≡_ {A = ℕ} 0 1 = cc in absurd (omega arith)
   told-bytes spell (writes a) before after n t =
       let size : n ≡ length (spell a) = let k = t .answer in cc in
-      record { what = a; isDue = refl; bytes = (λ i. take (size i) (t .output i)) ∙ overwrite-first before (spell a) }
+      record { what = a; isDue = refl; size = size; bytes = (λ i. take (size i) (t .output i)) ∙ overwrite-first before (spell a) }
+
+  -- a refusal that is told was due
+  pub told-due : (spell : A → List ℕ) (due : Writing A) (before after : List ℕ) (r : Refusal) → Told spell due before after (Refused r) → due ≡ refuses (refusalNumber r)
+  told-due spell (refuses m) before after r t = let k = t .answer in cc
+  told-due spell (writes a) before after r t = let k = t .answer in let z : _≡_ {A = ℕ} 0 1 = cc in absurd (omega arith)
 
   -- the room comes first
   module _ (room lent : ℕ) (due : Writing A) where

@@ -1,9 +1,9 @@
 -- The number of each refusal.
 use Prim.Native.Nat.{ℕ}
-use Rattle.model.specs.Refusals.{tooManyNodes, badForm, badFraction, badCount, badPotential, badCycle, shortMemory, tooManyLabels, notAdmitted, badGap}
+use Rattle.model.specs.Refusals.{tooManyNodes, badForm, badFraction, badCount, badPotential, badCycle, shortMemory, tooManyLabels, notAdmitted, badGap, tooManyPairs}
 use Rattle.plan.specs.View.{faultNumber}
 use Rattle.refusals.specs.declared.Refusal.{Refusal}
-use Rattle.refusals.specs.declared.Refusal.the-variants.{Plan, TooManyNodes, BadForm, BadFraction, BadCount, BadPotential, BadCycle, ShortMemory, TooManyLabels, NotAdmitted, BadGap}
+use Rattle.refusals.specs.declared.Refusal.the-variants.{Plan, TooManyNodes, BadForm, BadFraction, BadCount, BadPotential, BadCycle, ShortMemory, TooManyLabels, NotAdmitted, BadGap, TooManyPairs}
 
 abbrev pub refusalNumber : Refusal → ℕ
 refusalNumber (Plan f) = faultNumber f
@@ -17,3 +17,4 @@ refusalNumber ShortMemory = shortMemory
 refusalNumber TooManyLabels = tooManyLabels
 refusalNumber NotAdmitted = notAdmitted
 refusalNumber BadGap = badGap
+refusalNumber TooManyPairs = tooManyPairs

@@ -16,6 +16,7 @@ pub enum Refusal {
     TooManyLabels,
     NotAdmitted,
     BadGap,
+    TooManyPairs,
 }
 
 // What a call that writes bytes tells: why it wrote none, or how many it wrote.
@@ -41,6 +42,7 @@ impl Refusal {
             Refusal::TooManyLabels => 12,
             Refusal::NotAdmitted => 13,
             Refusal::BadGap => 14,
+            Refusal::TooManyPairs => 15,
         }
     }
 }

@@ -1,6 +1,6 @@
-// Reads plan.bin and writes a plan made from it to standard output, as its bytes, or `refused n`. The command is in the arguments:
-// `gap TASK SLOTS`. Arguments that are no command get a line on standard error, and nothing is written. A file that cannot be
-// opened reads as empty. What it holds past this buffer changes no answer (theory: long-plan).
+// Writes a plan made from others to standard output, as its bytes, or `refused n`. The command is in the arguments: `gap TASK SLOTS`
+// reads plan.bin, `combine` reads plan.bin and other.bin. Arguments that are no command get a line on standard error, and nothing is
+// written. A file that cannot be opened reads as empty. What it holds past this buffer changes no answer (theory: long-plan).
 use arguments::Number;
 use libc::STDERR_FILENO;
 use libc::STDOUT_FILENO;
@@ -9,6 +9,7 @@ ghost use mathlib.Core.Bool.{true};
 ghost use mathlib.Core.List.{List};
 ghost use Prim.Native.Nat.{ℕ};
 ghost use lib.ListN.{length};
+ghost use Rattle.model.specs.Combine.{combine};
 ghost use Rattle.model.specs.Gap.{taskGap};
 ghost use Rattle.model.specs.Limits.{planRoom};
 ghost use Rattle.model.specs.Text.{planText};
@@ -18,7 +19,7 @@ ghost use Rattle.arguments.specs.Decimal.{decimalIn, numberOf};
 fn usage() {
     io::write_all(
         STDERR_FILENO,
-        b"usage: rewrite_plan gap TASK SLOTS (two numbers)\n",
+        b"usage: rewrite_plan gap TASK SLOTS (two numbers), or rewrite_plan combine\n",
     );
 }
 
@@ -59,8 +60,36 @@ fn rewrite_gap(task: u64, slots: u64) -> usize
     write_gap(&plan[..length], task, slots)
 }
 
+// Writes the plan of two plans, and answers the number of bytes.
+fn write_combined(first: &[u8], second: &[u8]) -> usize
+    ensures { λ n. ⌜ n ≡ length (planText (combine (now (first .entry)) (now (second .entry)) planRoom)) ⌝ }
+{
+    let mut out = plan_text::plan_room();
+    let n = plan_text::put_combined(&mut out, first, second);
+    io::write_all(STDOUT_FILENO, &out[..n]);
+    n
+}
+
+// Reads both plans and writes the plan of both.
+fn combine_plans() -> usize
+    ensures { λ n. ⌜ ((first : List ℕ) × (second : List ℕ) × (n ≡ length (planText (combine first second planRoom)))) ⌝ }
+{
+    let mut first = io::large_buffer();
+    let mut second = io::large_buffer();
+    let length = io::read_full(os::open_read(b"plan.bin"), &mut first);
+    let other = io::read_full(os::open_read(b"other.bin"), &mut second);
+    write_combined(&first[..length], &second[..other])
+}
+
 fn main() {
-    if os::arg_count() != 4 {
+    let count = os::arg_count();
+    if count == 2 {
+        if is_word(1, b"combine") {
+            combine_plans();
+            return;
+        }
+    }
+    if count != 4 {
         usage();
         return;
     }

@@ -6,6 +6,7 @@ use Prim.Native.Nat.{ℕ, zero, suc, _+_, _-_, _*_, _%_, _<_, _≤_}
 use lib.Dec.{eqb, ltb}
 use lib.ListN.{length, getD}
 use Rattle.model.specs.Bytes.{number, part, Only}
+use Rattle.model.specs.Discovery.{numberIn}
 use Rattle.model.specs.Limits.{maxTasks, maxWindow, maxNodes}
 use Rattle.model.specs.Lists.{upFrom, sameNumbers}
 use Rattle.store.specs.declared.Found.{Found}
@@ -41,8 +42,7 @@ rowsIn memory n = map (rowAt memory) (upFrom 0 n)
 
 -- the place of the first row equal to this one; the number of rows where there is none
 unfoldable pub indexIn : List (List ℕ) → List ℕ → ℕ
-indexIn [] row = 0
-indexIn (r ∷ rows) row = let later = suc (indexIn rows row) in cond (sameNumbers r row) 0 later
+indexIn = numberIn sameNumbers
 
 -- no two rows are equal
 pub record Distinct (rows : List (List ℕ)) : Type 0 where

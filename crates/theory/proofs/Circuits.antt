@@ -15,9 +15,10 @@ use Rattle.model.specs.Limits.{maxNodes, maxP, maxQ}
 use Rattle.model.specs.Lists.{keep}
 use Rattle.model.specs.Plan.{Plan}
 use Rattle.model.specs.Slot.{slot}
+use Rattle.model.specs.Discovery.{numberIn}
 use Rattle.model.specs.Graph.{Node, Edge, start, sameNode, edgeOf, edgesAt, edges, nodes, tooLarge}
 use Rattle.model.specs.Walk.{Walk, here, go, kept, ideal}
-use Rattle.model.specs.Check.{numberIn, fractionOk}
+use Rattle.model.specs.Check.{fractionOk}
 use Rattle.model.specs.Solve.{cost}
 use Rattle.model.proofs.Lists.{mem-getD, mem-keep, mem-of-keep}
 use Rattle.theory.specs.Search.{Taken, Path, here, go, Within}
@@ -88,7 +89,7 @@ module _ (P : Plan) (sd : PlanSound P) where
   pub edge-best : tooLarge P ≡ false → (u l : ℕ) (e : Edge) → u < length (nodes P) → List·Memᴰ e (edgesAt P (nodeAt P u) l) →
       BestFor P u l e
   edge-best fits u l e h m = record {
-    node = numberIn (nodes P) (e .to);
+    node = numberIn sameNode (nodes P) (e .to);
     below = at .0;
     to = sym (at .1);
     edge = f;
@@ -107,7 +108,7 @@ module _ (P : Plan) (sd : PlanSound P) where
       there : Edge → Bool
       there g = sameNode (g .to) (e .to)
 
-      at : (numberIn (nodes P) (e .to) < length (nodes P)) × (nodeAt P (numberIn (nodes P) (e .to)) ≡ e .to)
+      at : (numberIn sameNode (nodes P) (e .to) < length (nodes P)) × (nodeAt P (numberIn sameNode (nodes P) (e .to)) ≡ e .to)
       at =
           number-at (nodes P) (e .to) start
           (nodes-closed P fits (nodeAt P u) (mem-getD (nodes P) u start h) e (edgesAt-edges (nodeAt P u) l e m))

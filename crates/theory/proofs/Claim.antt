@@ -18,7 +18,7 @@ use Rattle.model.specs.Check.{allowance, share, verdict, check}
 use Rattle.model.proofs.Lists.{mem-getD}
 use Rattle.theory.proofs.Sound.{PlanSound, sound-plan, read-sound}
 use Rattle.theory.proofs.Schedules.{true-to-schedules}
-use Rattle.theory.proofs.Nodes.{known-nodes}
+use Rattle.theory.proofs.Nodes.{nodes-reachable}
 use Rattle.theory.proofs.Potentials.{walk-keeps}
 use Rattle.theory.proofs.Steps.{cycle-tight, cycle-exceeds}
 use Rattle.theory.proofs.Accepted.{Accepted, accepted-iff, check-iff}
@@ -44,7 +44,7 @@ module _ (P : Plan) (true-to : TrueToSchedules P) (fits : tooLarge P ≡ false) 
   no-more x b H h =
       let t = cycle-tight P (nodes P) c (factor-pos (c .p * b) x (c .q) h) (a .cycle) in
       let u : Node = getD (nodes P) (c .node) start in
-      let w = cycle-exceeds P (c .p) (c .q) u (known-nodes P .reachable u (mem-getD (nodes P) (c .node) start (t .0))) (t .1) x b H h in
+      let w = cycle-exceeds P (c .p) (c .q) u (nodes-reachable P u (mem-getD (nodes P) (c .node) start (t .0))) (t .1) x b H h in
       let s = true-to .toSchedule u (w .0) (w .1) in
       (labels (w .0), s .0, s .1, subst₂ (λ k i. b * k + H < x * i) (s .2 .policy) (s .2 .clairvoyant) (w .2))
 

@@ -8,9 +8,10 @@ use lib.IntN.{ℤ, pos, _+ℤ_, +ℤ-idl, +ℤ-idr}
 use lib.ListN.{length, getD}
 use lib.Signed.{_≤ℤ_}
 use Rattle.model.specs.Plan.{Plan}
-use Rattle.model.specs.Graph.{Node, Edge, start, edges, nodes, tooLarge}
+use Rattle.model.specs.Discovery.{numberIn}
+use Rattle.model.specs.Graph.{Node, Edge, start, edges, nodes, tooLarge, sameNode}
 use Rattle.model.specs.Walk.{Walk}
-use Rattle.model.specs.Check.{potentialAt, weight, numberIn, edgesOkFrom}
+use Rattle.model.specs.Check.{potentialAt, weight, edgesOkFrom}
 use Rattle.model.specs.Solve.{cost, Smallest}
 use Rattle.words.proofs.Signed.{≤ℤ-antisymm}
 use Rattle.theory.proofs.Cycles.{walk-snoc}
@@ -62,7 +63,7 @@ module _ (P : Plan) (fits : tooLarge P ≡ false) (p q : ℕ) (zs : List ℤ) wh
   pub smallest-at : AllSmallest P p q zs → (v : Node) → List·Memᴰ v (nodes P) → Smallest P p q v (potentialOf (nodes P) zs v)
   smallest-at s v m =
       let r = number-at (nodes P) v start m in
-      subst (λ u. Smallest P p q u (potentialOf (nodes P) zs v)) (r .1) (s (numberIn (nodes P) v) (r .0))
+      subst (λ u. Smallest P p q u (potentialOf (nodes P) zs v)) (r .1) (s (numberIn sameNode (nodes P) v) (r .0))
 
   -- smallest costs pass the test of edges
   pub smallest-pass : AllSmallest P p q zs → edgesOkFrom P (nodes P) p q zs 0 (nodes P) ≡ true

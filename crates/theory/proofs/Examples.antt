@@ -12,7 +12,8 @@ use Rattle.model.specs.Cases.{planB, planC, certificateB, certificateC}
 use Rattle.model.specs.Plan.{Plan, sound, readPlan, readFrom, firstFault, fault, after, width, mayFollow, inRange, taskInRange, arcInRange}
 use Rattle.model.specs.Slot.{slot, ready, first, key}
 use Rattle.model.specs.Masks.{masksOf}
-use Rattle.model.specs.Graph.{choices, edgeOf, edgesAt, edges, explored, nodes, tooLarge}
+use Rattle.model.specs.Discovery.{found}
+use Rattle.model.specs.Graph.{choices, edgeOf, edgesAt, edges, nodes, tooLarge}
 use Rattle.model.specs.Share.{KeptShare}
 use Rattle.model.specs.Walk.{here, go}
 use Rattle.model.specs.Certificate.{Certificate, certificateBytes, readCertificate, readPotentials, readSteps}
@@ -23,12 +24,12 @@ use Rattle.theory.proofs.Distances.{AllSmallest, pass-smallest}
 
 -- B: a third is kept, but for 3, and no more
 pub claim-B : (P : Plan) × (readPlan planB ≡ sound P) × KeptShare P 1 3 3
-unfolding number signed readPlan readFrom firstFault fault after width mayFollow inRange taskInRange arcInRange slot ready first key masksOf choices edgeOf edgesAt edges explored nodes tooLarge readCertificate readPotentials readSteps check verdict fractionOk gcd potentialsOk cycleOk follow allowance
+unfolding number signed readPlan readFrom firstFault fault after width mayFollow inRange taskInRange arcInRange slot ready first key masksOf choices edgeOf edgesAt edges found nodes tooLarge readCertificate readPotentials readSteps check verdict fractionOk gcd potentialsOk cycleOk follow allowance
 claim-B = check-plan planB certificateB workRoom {N = 5} refl
 
 -- C: no schedule gains more than 1
 pub claim-C : (P : Plan) × (readPlan planC ≡ sound P) × KeptShare P 1 0 1
-unfolding number signed readPlan readFrom firstFault fault after width mayFollow inRange taskInRange arcInRange slot ready first key masksOf choices edgeOf edgesAt edges explored nodes tooLarge readCertificate readPotentials readSteps check verdict fractionOk gcd potentialsOk cycleOk follow allowance
+unfolding number signed readPlan readFrom firstFault fault after width mayFollow inRange taskInRange arcInRange slot ready first key masksOf choices edgeOf edgesAt edges found nodes tooLarge readCertificate readPotentials readSteps check verdict fractionOk gcd potentialsOk cycleOk follow allowance
 claim-C = check-plan planC certificateC workRoom {N = 2} refl
 
 -- the plan and the certificate that the bytes of C are
@@ -40,7 +41,7 @@ writtenC = record { p = 1; q = 0; potentials = pos 0 ∷ negsuc 0 ∷ []; node =
 
 -- C: "potentials 0, −1" are the smallest sums, so this is the only certificate that the solver may write
 pub solved-C : (readPlan planC ≡ sound readC) × (readCertificate certificateC ≡ some writtenC) × Solved readC writtenC
-unfolding number bytes signed complement readPlan readFrom firstFault fault after width mayFollow inRange taskInRange arcInRange slot ready first key masksOf choices edgeOf edgesAt edges explored nodes tooLarge certificateBytes readCertificate readPotentials readSteps check verdict fractionOk gcd potentialsOk cycleOk follow allowance
+unfolding number bytes signed complement readPlan readFrom firstFault fault after width mayFollow inRange taskInRange arcInRange slot ready first key masksOf choices edgeOf edgesAt edges found nodes tooLarge certificateBytes readCertificate readPotentials readSteps check verdict fractionOk gcd potentialsOk cycleOk follow allowance
 solved-C = (refl, refl, record { form = refl; accepted = refl; potentials = smallest })
   where
     smallest : AllSmallest readC 1 0 (writtenC .potentials)

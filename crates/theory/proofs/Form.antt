@@ -26,7 +26,7 @@ use Rattle.model.proofs.Plan.{both}
 use Rattle.words.proofs.Complement.{complement-lt, signed-complement}
 use Rattle.words.proofs.Numbers.{number-bytes, bytes-length}
 use Rattle.model.proofs.Tests.{true-and, all-each, same-numbers}
-use Rattle.theory.proofs.Nodes.{known-nodes, nodes-fit}
+use Rattle.theory.proofs.Nodes.{some-node, nodes-fit}
 use Rattle.theory.proofs.Steps.{find-step, after, closes-parts, cycle-closes}
 use Rattle.theory.proofs.Accepted.{Accepted}
 use Rattle.theory.proofs.Gains.{fraction-fits}
@@ -254,7 +254,7 @@ unfolding potentialsOk
 accepted-formed P fits c a few bare = record {
   smallP = omega (arith, fraction-fits (c .p) (c .q) (a .fraction) .0);
   smallQ = omega (arith, fraction-fits (c .p) (c .q) (a .fraction) .1);
-  some = omega (arith, a .counted, known-nodes P .some);
+  some = omega (arith, a .counted, some-node P);
   few = omega (arith, a .counted, nodes-fit P fits);
   potentials = λ z m. limit-fits z (all-each withinLimit (c .potentials) .0 (both (all withinLimit (c .potentials)) _ (a .potentials) .0) z m);
   node = by-node (decLt 0 (c .q));

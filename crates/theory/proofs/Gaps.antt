@@ -1,17 +1,17 @@
 -- The plan with a gap: it is sound, and its bytes have the gap.
 -- Assumes nothing.
-use mathlib.Core.Path.{_≡_, refl, ap, sym, subst, _∙_}
-use mathlib.Core.Bool.{Bool, true, false, cond, _&&_}
+use mathlib.Core.Path.{_≡_, refl, subst}
+use mathlib.Core.Bool.{Bool, _&&_}
 use mathlib.Core.List.{List}
 use mathlib.Core.Option.{some, Option·none-ne-some, Option·some-injective}
 use Prim.Native.Nat.{ℕ, zero, suc, _-_, _≤_, _<_}
 use native.Mathlib.Omega.{arith}
 use borrow.Author.Tests.{leb-true}
-use lib.Dec.{ltb, leb}
+use lib.Dec.{leb}
 use lib.ListN.{length}
-use Rattle.model.specs.Calls.{Writing, refuses, writes, withPlan, withRoom}
+use Rattle.model.specs.Calls.{writes}
 use Rattle.model.specs.Limits.{maxGap, planRoom}
-use Rattle.model.specs.Refusals.{badGap, shortMemory}
+use Rattle.model.specs.Refusals.{badGap}
 use Rattle.model.specs.Plan.{Plan, sound, between, readPlan}
 use Rattle.model.specs.PlanBytes.{planBytes}
 use Rattle.model.specs.Gap.{isTask, releases, gapNext, gapPlan, gapIn, taskGap, HasGap}
@@ -19,6 +19,7 @@ use Rattle.model.proofs.Plan.{both}
 use Rattle.theory.proofs.Sound.{PlanSound, read-sound}
 use Rattle.theory.proofs.Automata.{arcs-rise, arcs-sound}
 use Rattle.theory.proofs.PlanRead.{plan-read-back}
+use Rattle.theory.proofs.Writings.{taken, over}
 use Rattle.theory.proofs.GapRuns.{gap-runs}
 
 next-below : (g s n t : ℕ) → 1 ≤ g → s < g → gapNext g s n ≡ some t → t < g
@@ -52,15 +53,6 @@ module _ (P : Plan) (s : PlanSound P) (set : ℕ → Bool) (g : ℕ) (g1 : 1 ≤
 
 -- ---- whatever the call writes has the gap
 
--- of two answers the one that is taken writes
-taken : (b : Bool) (n : ℕ) (a : Writing Plan) (Q : Plan) → cond b a (refuses n) ≡ writes Q → (b ≡ true) × (a ≡ writes Q)
-taken true n a Q e = (refl, e)
-taken false n a Q e = let z : _≡_ {A = ℕ} 0 1 = cc in absurd (omega arith)
-
-roomy : (b : Bool) (n : ℕ) (a : Writing Plan) (Q : Plan) → cond b (refuses n) a ≡ writes Q → a ≡ writes Q
-roomy true n a Q e = let z : _≡_ {A = ℕ} 0 1 = cc in absurd (omega arith)
-roomy false n a Q e = e
-
 gap-in : (P Q : Plan) → PlanSound P → (set : ℕ → Bool) (known : Bool) (g : ℕ) → gapIn P set known g ≡ writes Q → HasGap P set g (planBytes Q)
 gap-in P Q s set known g e =
     let a = taken (between 1 g maxGap && known) badGap (writes (gapPlan P set g)) Q e in
@@ -69,13 +61,8 @@ gap-in P Q s set known g e =
     let same : gapPlan P set g ≡ Q = let k = a .1 in cc in
     subst (λ (R : Plan). HasGap P set g (planBytes R)) same (gap-has P s set g (leb-true _ _ (ends .0)) (leb-true _ _ (ends .1)))
 
--- a call over a plan that is sound
-over : (plan : List ℕ) (lent : ℕ) (f : Plan → Writing Plan) (P Q : Plan) → readPlan plan ≡ sound P → withRoom planRoom lent (withPlan (readPlan plan) f) ≡ writes Q → f P ≡ writes Q
-over plan lent f P Q r e =
-    sym (ap (λ a. withPlan a f) r) ∙ roomy (ltb lent planRoom) shortMemory (withPlan (readPlan plan) f) Q e
-
 pub task-gap-has : (plan : List ℕ) (i g lent : ℕ) (P Q : Plan) → readPlan plan ≡ sound P → taskGap plan i g lent ≡ writes Q → HasGap P (isTask i) g (planBytes Q)
 unfolding taskGap
 task-gap-has plan i g lent P Q r e =
     gap-in P Q (read-sound plan P r) (isTask i) (between 1 i (length (P .tasks))) g
-    (over plan lent (λ P. gapIn P (isTask i) (between 1 i (length (P .tasks))) g) P Q r e)
+    (over planRoom lent plan (λ P. gapIn P (isTask i) (between 1 i (length (P .tasks))) g) P Q r e)

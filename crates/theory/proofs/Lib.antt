@@ -5,7 +5,6 @@ pub mod Edges
 pub mod Sound
 pub mod Walks
 pub mod Schedules
-pub mod Distinct
 pub mod Cycles
 pub mod Nodes
 pub mod Costs
@@ -36,4 +35,7 @@ pub mod PlanRead
 pub mod PlanForm
 pub mod Automata
 pub mod GapRuns
+pub mod Writings
 pub mod Gaps
+pub mod Pairs
+pub mod Combined

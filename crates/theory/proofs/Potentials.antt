@@ -12,21 +12,22 @@ use lib.ListN.{length, getD}
 use lib.Signed.{leZ, _≤ℤ_, ≤ℤ-refl, leZ-yes}
 use Rattle.model.specs.Lists.{all}
 use Rattle.model.specs.Plan.{Plan}
-use Rattle.model.specs.Graph.{Node, Edge, start, edges, nodes, tooLarge}
+use Rattle.model.specs.Discovery.{numberIn}
+use Rattle.model.specs.Graph.{Node, Edge, start, edges, nodes, tooLarge, sameNode}
 use Rattle.model.specs.Walk.{Walk, kept, ideal}
-use Rattle.model.specs.Check.{potentialAt, withinLimit, weight, numberIn, edgeOk, edgesOkFrom, potentialsOk, least, allowance}
+use Rattle.model.specs.Check.{potentialAt, withinLimit, weight, edgeOk, edgesOkFrom, potentialsOk, least, allowance}
 use Rattle.model.proofs.Lists.{mem-getD}
 use Rattle.model.proofs.Plan.{both}
 use Rattle.words.proofs.Signed.{≤ℤ-trans}
 use Rattle.theory.proofs.Integers.{leZ-not, gap, budget}
 use Rattle.model.proofs.Tests.{is-true, holds, true-and, all-each}
-use Rattle.theory.proofs.Distinct.{Distinct}
+use Rattle.model.proofs.Distinct.{Distinct}
 use Rattle.theory.proofs.Nodes.{number-at, number-getD, start-in-nodes, number-start, nodes-closed, walk-in-nodes}
 use Rattle.theory.proofs.Costs.{Feasible, feasible-walk}
 
 -- a node's potential
 abbrev pub potentialOf : List Node → List ℤ → Node → ℤ
-potentialOf ns zs v = potentialAt zs (numberIn ns v)
+potentialOf ns zs v = potentialAt zs (numberIn sameNode ns v)
 
 module _ (P : Plan) (ns : List Node) (p q : ℕ) (zs : List ℤ) where
   -- every edge of these nodes passes; the first of them is numbered u
@@ -77,9 +78,9 @@ module _ (P : Plan) (ns : List Node) (p q : ℕ) (zs : List ℤ) where
   pub pass-feasible : edgesOkFrom P ns p q zs 0 ns ≡ true → Feasible p q P ns (potentialOf ns zs)
   pass-feasible h u m e k =
       let r = number-at ns u start m in
-      edge-each (numberIn ns u) e .0
-      (subst (λ n. edgeOk ns p q zs n e ≡ true) (zero-add (numberIn ns u))
-      (edges-each 0 ns .0 h (numberIn ns u) (r .0) e (subst (λ n. List·Memᴰ e (edges P n)) (sym (r .1)) k)))
+      edge-each (numberIn sameNode ns u) e .0
+      (subst (λ n. edgeOk ns p q zs n e ≡ true) (zero-add (numberIn sameNode ns u))
+      (edges-each 0 ns .0 h (numberIn sameNode ns u) (r .0) e (subst (λ n. List·Memᴰ e (edges P n)) (sym (r .1)) k)))
 
   -- and the other way round
   pub feasible-pass : Distinct ns → Feasible p q P ns (potentialOf ns zs) → edgesOkFrom P ns p q zs 0 ns ≡ true
@@ -87,7 +88,7 @@ module _ (P : Plan) (ns : List Node) (p q : ℕ) (zs : List ℤ) where
       edges-each 0 ns .1
       (λ i l e m.
       subst (λ n. edgeOk ns p q zs n e ≡ true) (number-getD ns start d i l ∙ sym (zero-add i))
-      (edge-each (numberIn ns (getD ns i start)) e .1 (f (getD ns i start) (mem-getD ns i start l) e m)))
+      (edge-each (numberIn sameNode ns (getD ns i start)) e .1 (f (getD ns i start) (mem-getD ns i start l) e m)))
 
 -- ---- the allowance
 
@@ -129,7 +130,7 @@ walk-keeps P p q zs fits size ok {v} {es} w =
     budget (φ start) (φ v) (q * kept es) (p * ideal es) (allowance zs)
     (feasible-walk p q φ (nodes-closed P fits) feasible (start-in-nodes P) w)
     (subst (λ n. potentialAt zs n ≤ℤ (φ v +ℤ pos (allowance zs))) (sym (number-start P))
-    (allowance-each zs (numberIn (nodes P) v) (omega (arith, number-at (nodes P) v start (walk-in-nodes P fits w) .0))))
+    (allowance-each zs (numberIn sameNode (nodes P) v) (omega (arith, number-at (nodes P) v start (walk-in-nodes P fits w) .0))))
   where
     φ : Node → ℤ
     φ = potentialOf (nodes P) zs

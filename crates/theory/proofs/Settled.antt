@@ -14,10 +14,11 @@ use borrow.Author.Tests.{eq-eqb}
 use Rattle.model.specs.Limits.{maxSteps}
 use Rattle.model.specs.Lists.{upFrom}
 use Rattle.model.specs.Plan.{Plan}
-use Rattle.model.specs.Graph.{Node, Edge, start, edges, nodes, tooLarge}
+use Rattle.model.specs.Discovery.{numberIn}
+use Rattle.model.specs.Graph.{Node, Edge, start, edges, nodes, tooLarge, sameNode}
 use Rattle.model.specs.Walk.{Walk, here, go, kept, ideal}
 use Rattle.model.specs.Certificate.{Certificate}
-use Rattle.model.specs.Check.{potentialAt, weight, numberIn, fractionOk, cycleOk}
+use Rattle.model.specs.Check.{potentialAt, weight, fractionOk, cycleOk}
 use Rattle.model.specs.Solve.{Solved}
 use Rattle.model.proofs.Lists.{mem-getD, length-upFrom, getD-table}
 use Rattle.words.proofs.Signed.{≤ℤ-trans, +ℤ-mono}
@@ -26,7 +27,7 @@ use Rattle.theory.specs.Lightest.{nodeAt, Lightest, Along, stepOf}
 use Rattle.theory.proofs.Integers.{sub-mono}
 use Rattle.theory.proofs.Edges.{mem-edgesAt, mem-edges}
 use Rattle.theory.proofs.Sound.{PlanSound}
-use Rattle.theory.proofs.Nodes.{number-at, number-getD, known-nodes, nodes-distinct, start-in-nodes, number-start, nodes-closed}
+use Rattle.theory.proofs.Nodes.{number-at, number-getD, some-node, first-node, nodes-reachable, nodes-distinct, start-in-nodes, number-start, nodes-closed}
 use Rattle.theory.proofs.Costs.{Feasible}
 use Rattle.theory.proofs.Potentials.{potentialOf, feasible-pass}
 use Rattle.theory.proofs.Distances.{AllSmallest, pass-smallest}
@@ -46,7 +47,7 @@ module _ (P : Plan) (sd : PlanSound P) (fits : tooLarge P ≡ false) {p q c : �
     (r : Search (Lightest P p q) (length (nodes P)) c s) (quiet : Quiet (length (nodes P)) s) where
   -- a node's number
   abbrev number : Node → ℕ
-  number v = numberIn (nodes P) v
+  number v = numberIn sameNode (nodes P) v
 
   -- an edge from a known node leads to a known one, whose distance is no greater than with the edge's weight
   settled-edge : (u : ℕ) → u < length (nodes P) → s .known u ≡ true → (e : Edge) → List·Memᴰ e (edges P (nodeAt P u)) →
@@ -80,7 +81,7 @@ module _ (P : Plan) (sd : PlanSound P) (fits : tooLarge P ≡ false) {p q c : �
   settled-known v h =
       ap (s .known) (sym (number-getD (nodes P) start (nodes-distinct P) v h))
       ∙ settled-walk (start-in-nodes P) (ap (s .known) (number-start P) ∙ r .tree .upward .root)
-      (known-nodes P .reachable (nodeAt P v) (mem-getD (nodes P) v start h) .1)
+      (nodes-reachable P (nodeAt P v) (mem-getD (nodes P) v start h) .1)
 
   -- and the distances are the smallest costs
   pub settled-smallest : AllSmallest P p q (distances (length (nodes P)) s)
@@ -88,8 +89,8 @@ module _ (P : Plan) (sd : PlanSound P) (fits : tooLarge P ≡ false) {p q c : �
       let t = search-path (Lightest P p q) r quiet i h (settled-known i h) in
       let a = path-along (t .2) in
       pass-smallest P fits p q zs (feasible-pass P (nodes P) p q zs (nodes-distinct P) feasible)
-      (potential 0 (known-nodes P .some) ∙ r .tree .zero-at) i h
-      (subst (λ x. Walk P x (nodeAt P i) (a .0)) (known-nodes P .first) (along-walk P sd (a .1))) (a .2 ∙ sym (potential i h))
+      (potential 0 (some-node P) ∙ r .tree .zero-at) i h
+      (subst (λ x. Walk P x (nodeAt P i) (a .0)) (first-node P) (along-walk P sd (a .1))) (a .2 ∙ sym (potential i h))
     where
       zs : List ℤ
       zs = distances (length (nodes P)) s

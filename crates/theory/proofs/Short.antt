@@ -10,13 +10,14 @@ use lib.IntN.{pos}
 use lib.ListN.{length, length-map}
 use lib.Signed.{_≤ℤ_, ≤ℤ-refl}
 use Rattle.model.specs.Plan.{Plan}
-use Rattle.model.specs.Graph.{Node, Edge, edges, among}
+use Rattle.model.specs.Discovery.{among}
+use Rattle.model.specs.Graph.{Node, Edge, edges, sameNode}
 use Rattle.model.specs.Walk.{Walk, here, go}
 use Rattle.model.specs.Check.{weight}
 use Rattle.model.specs.Solve.{cost}
 use Rattle.words.proofs.Signed.{+ℤ-mono}
 use Rattle.theory.proofs.Integers.{cheaper}
-use Rattle.theory.proofs.Distinct.{Distinct, distinct-le}
+use Rattle.model.proofs.Distinct.{Distinct, distinct-le}
 use Rattle.theory.proofs.Nodes.{among-mem, Closed}
 use Rattle.theory.proofs.Costs.{cost-append, cost-cons}
 
@@ -81,7 +82,7 @@ NoLoss p q P ns = (u : Node) → List·Memᴰ u ns → (es : List Edge) → Walk
 module _ (p q : ℕ) {P : Plan} {ns : List Node} (closed : Closed P ns) (no-loss : NoLoss p q P ns) where
   -- an edge, then a walk without loops
   simple-go : {u v : Node} {e : Edge} {es : List Edge} → List·Memᴰ u ns → List·Memᴰ e (edges P u) → Simple P p q (e .to) v es → Simple P p q u v (e ∷ es)
-  simple-go {u} {v} {e} {es} m j s = by (among u (passed (e .to) (s .path))) refl
+  simple-go {u} {v} {e} {es} m j s = by (among sameNode u (passed (e .to) (s .path))) refl
     where
       loop : Cut P (e .to) u v (s .path) → Simple P p q u v (e ∷ es)
       loop c = record {
@@ -95,7 +96,7 @@ module _ (p q : ℕ) {P : Plan} {ns : List Node} (closed : Closed P ns) (no-loss
             (ap (cost p q) (c .whole) ∙ cost-append p q (c .before) (c .after)) (s .less));
       }
 
-      by : (b : Bool) → among u (passed (e .to) (s .path)) ≡ b → Simple P p q u v (e ∷ es)
+      by : (b : Bool) → among sameNode u (passed (e .to) (s .path)) ≡ b → Simple P p q u v (e ∷ es)
       by true t = loop (cut u (s .walk) (among-mem u (passed (e .to) (s .path)) .0 t))
       by false t = record {
         path = e ∷ s .path;

@@ -13,7 +13,7 @@ use borrow.Author.Tests.{eq-eqb, ne-eqb}
 use Rattle.model.specs.Lists.{upFrom}
 use Rattle.model.proofs.Lists.{length-upFrom, mem-upFrom}
 use Rattle.theory.specs.Search.{above, Before, changed, Upward}
-use Rattle.theory.proofs.Distinct.{Distinct, distinct-le}
+use Rattle.model.proofs.Distinct.{Distinct, distinct-le}
 
 module _ {ℓ} {A : Type ℓ} where
   pub changed-at : (f : ℕ → A) (v : ℕ) (a : A) (x : ℕ) → x ≡ v → changed f v a x ≡ a

@@ -54,6 +54,9 @@ solve-case-requires c κs = search needs
 gap-case-requires : tie.Need-gap-case-requires Inv-loop μ-loop
 gap-case-requires c κs = search needs
 
+combine-case-requires : tie.Need-combine-case-requires Inv-loop μ-loop
+combine-case-requires c κs = search needs
+
 slice-aggregate-write-all : tie.Need-slice-aggregate-write-all Inv-loop μ-loop
 slice-aggregate-write-all c = search needs
 
@@ -93,6 +96,7 @@ main-spec =
     check-case-requires
     solve-case-requires
     gap-case-requires
+    combine-case-requires
     slice-aggregate-write-all
     write-all-requires
     sub-left

@@ -7,10 +7,11 @@ use native.Mathlib.Omega.{arith}
 use lib.ListN.{length}
 use borrow.Author.Needs.{needs}
 use Rattle.words.proofs.Free.{only-refl, only-trans}
+use Rattle.model.specs.Discovery.{found}
 use Rattle.model.specs.Graph as model
-use Rattle.model.specs.Graph.{explored}
 use Rattle.model.specs.Limits.{maxNodes}
 use Rattle.model.specs.Plan.{Plan}
+use Rattle.theory.proofs.Nodes.{explored}
 use Rattle.words.proofs.Memory.{part-length}
 use Rattle.policy.specs.View.{tasksIn}
 use Rattle.graph.specs.Outcomes.{NotesFree}
@@ -32,7 +33,7 @@ abbrev μ-loop : tie.MeasureT-loop
 μ-loop next rules notes₀ m₀ n known₀ k₀ notes m known k = maxNodes - k
 
 loop-holds : tie.Need-loop-holds Inv-loop μ-loop
-unfolding explored
+unfolding found
 loop-holds c =
     let start = c .before .before in
     let a = start .args in

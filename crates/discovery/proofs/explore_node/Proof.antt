@@ -46,7 +46,7 @@ follow-label-requires c κs =
     let es = edgesBelow (a .next .now) (nodeOf (tasksIn (a .rules)) (a .node)) (l .label) in (
       start .pre .0,
       (
-        explored-held (a .rules) es es (a .m .now) (a .n) (l .m) (l .known) (l .inv .4) (l .inv .1),
+        explored-held (a .rules) es (a .m .now) (a .n) (l .m) (l .known) (l .inv .4) (l .inv .1),
         omega (arith, l .inv .2, start .pre .1 .1),
       ),
     )

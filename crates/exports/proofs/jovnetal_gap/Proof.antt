@@ -1,6 +1,6 @@
 -- `exports::jovnetal_gap` meets its contract: the number of what the gap call told; bytes were written where it is small.
 -- Assumes nothing.
-use mathlib.Core.Path.{_≡_, refl, sym, ap, subst, _∙_}
+use mathlib.Core.Path.{_≡_, refl, sym, subst}
 use mathlib.Core.List.{List}
 use Prim.Native.Nat.{ℕ}
 use native.Mathlib.Omega.{arith}
@@ -11,6 +11,7 @@ use Rattle.refusals.specs.declared.Answer.the-variants.{Refused, Written}
 use Rattle.refusals.specs.Told.{resultBy}
 use Rattle.gap.specs.Promise.{Rewrites}
 use Rattle.exports.specs.Codes.{codeOf, RewritesAs}
+use Rattle.exports.proofs.Codes.{tells-as}
 use borrow.Author.Needs.{needs}
 use Rattle.exports.proofs.jovnetal_gap.Statement.{statement}
 use Rattle.exports.proofs.jovnetal_gap.Tie as tie
@@ -18,13 +19,11 @@ use Rattle.exports.proofs.jovnetal_gap.Tie as tie
 rewrites-as : (plan : List ℕ) (task slots : ℕ) (out out′ : List ℕ) (a : Answer) (r : ℕ) → Rewrites plan task slots out out′ a → r ≡ codeOf (resultBy a) →
     RewritesAs plan task slots out out′ r
 rewrites-as plan task slots out out′ (Refused f) r w e = record {
-  code = e ∙ ap codeOf (w .told .answer);
-  output = w .told .output;
+  tells = tells-as (w .told) e;
   kept = λ P read small. absurd (omega (arith, e));
 }
 rewrites-as plan task slots out out′ (Written n) r w e = record {
-  code = e ∙ ap codeOf (w .told .answer);
-  output = w .told .output;
+  tells = tells-as (w .told) e;
   kept = λ P read small. subst (λ (k : ℕ). HasGap P (isTask task) slots (take k out′)) (sym e) (w .kept P read n refl);
 }
 

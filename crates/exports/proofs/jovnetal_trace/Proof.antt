@@ -1,7 +1,6 @@
 -- `exports::jovnetal_trace` meets its contract: the number of what the trace told.
 -- Assumes nothing.
-use mathlib.Core.Path.{ap, _∙_}
-use Rattle.exports.specs.Codes.{codeOf}
+use Rattle.exports.proofs.Codes.{tells-as}
 use borrow.Author.Needs.{needs}
 use Rattle.exports.proofs.jovnetal_trace.Statement.{statement}
 use Rattle.exports.proofs.jovnetal_trace.Tie as tie
@@ -16,9 +15,7 @@ same-length : tie.Need-same-length
 same-length c = search needs
 
 returns : tie.Need-returns
-returns c =
-    let t = c .before .before .before .trace .ensures in
-    (c .code .ensures ∙ ap codeOf (t .answer), t .output)
+returns c = tells-as (c .before .before .before .trace .ensures) (c .code .ensures)
 
 pub jovnetal-trace-spec : {M : Type 1} → statement M
 jovnetal-trace-spec = tie.close (tie.spec trace-requires code-requires same-length returns)

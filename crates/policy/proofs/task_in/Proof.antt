@@ -1,14 +1,14 @@
 -- `policy::task_in` meets its contract: the tasks given are the first ones.
 -- Assumes nothing.
-use mathlib.Core.Path.{_≡_, sym, ap, _∙_}
+use mathlib.Core.Path.{_≡_, sym}
 use mathlib.Core.List.{List}
-use Prim.Native.Nat.{ℕ, _%_, _≤_, _<_}
-use lib.ListN.{getD, take, length-map, length-take, List·getD-map, List·getD-eq-default}
-use lib.Seq.{getD-take}
+use Prim.Native.Nat.{ℕ, _%_, _≤_}
+use lib.ListN.{getD, take, length-map, length-take, List·getD-eq-default}
 use Rattle.model.specs.Limits.{maxTasks}
 use Rattle.model.specs.Slot.{noTask}
 use Rattle.plan.specs.declared.Task.{Task}
 use Rattle.plan.specs.View.{taskView, tasksOf}
+use Rattle.plan.proofs.View.{task-given}
 use borrow.Author.Needs.{needs}
 use native.Mathlib.Omega.{arith}
 use Rattle.policy.proofs.task_in.Statement.{statement}
@@ -17,10 +17,6 @@ use Rattle.policy.proofs.task_in.Tie as tie
 not-given : (ts : List Task) (n i : ℕ) → n ≤ i → getD (tasksOf ts n) i noTask ≡ noTask
 not-given ts n i h =
     List·getD-eq-default (tasksOf ts n) noTask (omega (arith, length-map (take n ts) taskView, length-take n ts))
-
-given : (ts : List Task) (n i : ℕ) → i < n → taskView (getD ts i (record { work = 0; window = 0; value = 0 })) ≡ getD (tasksOf ts n) i noTask
-given ts n i h =
-    sym (List·getD-map taskView (take n ts) i (record { work = 0; window = 0; value = 0 }) ∙ ap taskView (getD-take n ts i (record { work = 0; window = 0; value = 0 }) h))
 
 returns : tie.Need-returns
 returns c =
@@ -36,7 +32,7 @@ array-copy-out-result c = search needs
 returns-2 : tie.Need-returns-2
 returns-2 c =
     let a = c .before .before .args in
-    given (a .t1) (a .count) (a .k % maxTasks) (c .before .if1 .left)
+    task-given (a .t1) (a .count) (a .k % maxTasks) (c .before .if1 .left)
 
 pub task-in-spec : {M : Type 1} → statement M
 task-in-spec = tie.close (tie.spec returns mul-result array-copy-out-result returns-2)

@@ -1,4 +1,4 @@
--- `cases::gaps::put_result` meets its contract: each answer has its line.
+-- `cases::results::put_result` meets its contract: each answer has its line.
 -- Assumes nothing.
 use mathlib.Core.Path.{_≡_, refl, sym, ap, _∙_}
 use mathlib.Core.List.{List}
@@ -14,8 +14,8 @@ use Rattle.refusals.specs.declared.Answer.{Answer}
 use Rattle.refusals.specs.Told.{resultBy}
 use Rattle.cases.specs.Lines.{resultLine}
 use borrow.Author.Needs.{needs}
-use Rattle.cases.proofs.gaps.put_result.Statement.{statement}
-use Rattle.cases.proofs.gaps.put_result.Tie as tie
+use Rattle.cases.proofs.results.put_result.Statement.{statement}
+use Rattle.cases.proofs.results.put_result.Tie as tie
 
 -- the line of the answer that a match has told
 as-line : {a b : Answer} {m l bs : List ℕ} {n : ℕ} → a ≡ b → bs ≡ resultLine (resultBy b) → Put m l 0 bs n → Put m l 0 (resultLine (resultBy a)) n × Counts n l

@@ -1,11 +1,11 @@
--- `cases::gaps::put_count` meets its contract: a number, and a line feed.
+-- `cases::results::put_count` meets its contract: a number, and a line feed.
 -- Assumes nothing.
 use native.Mathlib.Omega.{arith}
 use Rattle.words.proofs.Put.{put-then}
 use Rattle.text.proofs.Decimal.{decimal-length}
 use borrow.Author.Needs.{needs}
-use Rattle.cases.proofs.gaps.put_count.Statement.{statement}
-use Rattle.cases.proofs.gaps.put_count.Tie as tie
+use Rattle.cases.proofs.results.put_count.Statement.{statement}
+use Rattle.cases.proofs.results.put_count.Tie as tie
 
 put-number-requires : tie.Need-put-number-requires
 put-number-requires c κs = omega (arith, decimal-length 19 (c .before .before .args .n) (omega arith))
