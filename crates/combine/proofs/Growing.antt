@@ -2,7 +2,7 @@
 -- Assumes nothing.
 use mathlib.Core.Path.{_≡_, refl, sym, ap, subst, _∙_}
 use mathlib.Core.Bool.{Bool, cond}
-use mathlib.Core.List.{List, foldl, foldl-append, List·Memᴰ, List·Memᴰ·head}
+use mathlib.Core.List.{List, foldl, foldl-append, List·Memᴰ}
 use mathlib.Core.Option.{Option, none, some}
 use Prim.Native.Nat.{ℕ, suc, _+_, _-_, _^_, _≤_, _<_}
 use native.Mathlib.Decide.{ℕ-discrete, decLt}
@@ -16,7 +16,7 @@ use Rattle.model.specs.Limits.{maxStates}
 use Rattle.model.specs.Lists.{flatMap, upFrom, listOf}
 use Rattle.model.specs.Discovery.{add, numberIn}
 use Rattle.model.specs.Combine.{Pair, samePair, numbered}
-use Rattle.model.proofs.Lists.{flatMap-append, flatMap-snoc, upFrom-append, mem-flatMap, mem-upFrom}
+use Rattle.model.proofs.Lists.{flatMap-append, flatMap-snoc, upFrom-append, mem-given}
 use Rattle.model.proofs.Discovery.{among-mem, add-own, fold-holds, fold-longer, fold-number}
 use Rattle.theory.proofs.Pairs.{same-pair}
 use Rattle.plan.specs.View.{labelCount, nextOf}
@@ -107,8 +107,7 @@ module _ (first second : List ℕ) (u : Pair) (us : List Pair) where
         there : (v : Pair) → pairLeads first second u l ≡ some v → List·Memᴰ v (pairsIn order n)
         there v e =
             subst (λ (vs : List Pair). List·Memᴰ v vs) (sym (part .pairs))
-            (fold-holds samePair same-pair (below k) us v
-            (mem-flatMap to (mem-upFrom 0 k (omega arith) (omega (arith, h))) (subst (λ (o : Option Pair). List·Memᴰ v (listOf o)) (sym e) (List·Memᴰ·head refl))))
+            (fold-holds samePair same-pair (below k) us v (mem-given (pairLeads first second u) k l h e))
 
     -- one label more
     pub part-more : r .known ≤ maxStates → k < labelCount → Part order′ numbers′ (set entries k (r .entry)) (r .known) (k + 1)

@@ -3,7 +3,7 @@
 use mathlib.Core.Path.{_≡_, refl, sym, ap, subst, _∙_}
 use mathlib.Core.Bool.{Bool, true, false, cond, _&&_}
 use mathlib.Core.Logic.{inl, inr}
-use mathlib.Core.List.{List, [], _∷_, foldl, List·Memᴰ, List·Memᴰ·head}
+use mathlib.Core.List.{List, [], _∷_, foldl}
 use mathlib.Core.Option.{Option, none}
 use Prim.Native.Nat.{ℕ, suc, _+_, _*_, _^_, _≤_, _<_}
 use native.Mathlib.Decide.{ℕ-discrete, decLt}
@@ -16,10 +16,9 @@ use lib.Seq.{take-all}
 use Rattle.words.proofs.Memory.{overwrite-length, overwrite-inside, overwrite-outside}
 use Rattle.model.specs.Bytes.{part, overwrite}
 use Rattle.model.specs.Limits.{maxStates, maxTasks}
-use Rattle.model.specs.Lists.{listOf}
 use Rattle.model.specs.Discovery.{add, found}
 use Rattle.model.specs.Combine.{Pair, starts, samePair, numbered}
-use Rattle.model.proofs.Lists.{mem-flatMap, mem-upFrom}
+use Rattle.model.proofs.Lists.{mem-given}
 use Rattle.model.proofs.Discovery.{known-found, found-step, found-all, found-many, fold-longer, fold-getD}
 use Rattle.theory.proofs.Pairs.{same-pair}
 use Rattle.plan.specs.View.{labelCount, pairCount, nextOf}
@@ -30,9 +29,12 @@ use Rattle.combine.proofs.Numbers.{pairs-length, pair-getD}
 use Rattle.combine.proofs.Growing.{numbered-kept}
 
 module _ (first second : List ℕ) (count : ℕ) where
+  abbrev after : Pair → List Pair
+  after = pairsAfter first second count
+
   -- the pairs known once the first k have been explored
   abbrev known : ℕ → List Pair
-  known k = found samePair (pairsAfter first second count) starts k
+  known k = found samePair after starts k
 
   abbrev entryAt : List ℕ → ℕ → ℕ → Option ℕ
   entryAt next s l = nextOf (getD next (s * labelCount + l) 0)
@@ -79,17 +81,18 @@ module _ (first second : List ℕ) (count : ℕ) where
       this : pairAt (getD order k 0) ≡ getD (known k) k starts
       this = sym (pair-getD order numbers n (now .numbering) k more) ∙ ap (λ (us : List Pair). getD us k starts) (now .pairs)
 
-      step : foldl (add samePair) (pairsIn order n) (pairsAfter first second count (pairAt (getD order k 0))) ≡ known (suc k)
-      step =
-          (λ i. foldl (add samePair) (now .pairs i) (pairsAfter first second count (this i)))
-          ∙ sym (found-step samePair same-pair (pairsAfter first second count) starts k (omega (arith, more, size-known)))
+      grown : known (suc k) ≡ foldl (add samePair) (known k) (after (getD (known k) k starts))
+      grown = found-step samePair same-pair after starts k (omega (arith, more, size-known))
+
+      step : foldl (add samePair) (pairsIn order n) (after (pairAt (getD order k 0))) ≡ known (suc k)
+      step = (λ i. foldl (add samePair) (now .pairs i) (after (this i))) ∙ sym grown
 
       -- too many
       pub reached-many : maxStates < row .known → IsProduct first second count (record { states = row .known; next = next })
       reached-many much = record {
         states = λ few. absurd (omega (arith, few, much));
         many = λ h.
-            found-many samePair same-pair (pairsAfter first second count) starts maxStates (suc k) (omega (arith, more, now .numbering .few))
+            found-many samePair same-pair after starts maxStates (suc k) (omega (arith, more, now .numbering .few))
             (omega (arith, explored .known .many much, ap length step));
         size = now .size;
         arcs = λ few. absurd (omega (arith, few, much));
@@ -105,21 +108,18 @@ module _ (first second : List ℕ) (count : ℕ) where
 
         same-place : (s : ℕ) → s ≤ k → getD (known (suc k)) s starts ≡ getD (known k) s starts
         same-place s h =
-            ap (λ (us : List Pair). getD us s starts)
-            (found-step samePair same-pair (pairsAfter first second count) starts k (omega (arith, more, size-known)))
-            ∙ fold-getD samePair same-pair (pairsAfter first second count (getD (known k) k starts)) (known k) starts s (omega (arith, h, more, size-known))
+            ap (λ (us : List Pair). getD us s starts) grown
+            ∙ fold-getD samePair same-pair (after (getD (known k) k starts)) (known k) starts s (omega (arith, h, more, size-known))
 
         -- where the earlier pairs lead stays known
         stays : (s l : ℕ) → s < k → l < 2 ^ count → leadsTo (known (suc k)) s l ≡ leadsTo (known k) s l
         stays s l h b =
             ap (λ (u : Pair). numbered (known (suc k)) (pairLeads first second u l)) (same-place s (omega arith))
-            ∙ ap (λ (us : List Pair). numbered us (pairLeads first second (getD (known k) s starts) l))
-            (found-step samePair same-pair (pairsAfter first second count) starts k (omega (arith, more, size-known)))
-            ∙ numbered-kept (known k) (pairsAfter first second count (getD (known k) k starts)) (pairLeads first second (getD (known k) s starts) l)
+            ∙ ap (λ (us : List Pair). numbered us (pairLeads first second (getD (known k) s starts) l)) grown
+            ∙ numbered-kept (known k) (after (getD (known k) k starts)) (pairLeads first second (getD (known k) s starts) l)
             (λ v e.
-            known-found samePair same-pair (pairsAfter first second count) starts k .closed s h (omega (arith, h, more, size-known)) v
-            (mem-flatMap (λ j. listOf (pairLeads first second (getD (known k) s starts) j)) (mem-upFrom 0 (2 ^ count) (omega arith) (omega (arith, b)))
-            (subst (λ (o : Option Pair). List·Memᴰ v (listOf o)) (sym e) (List·Memᴰ·head refl))))
+            known-found samePair same-pair after starts k .closed s h (omega (arith, h, more, size-known)) v
+            (mem-given (pairLeads first second (getD (known k) s starts)) (2 ^ count) l b e))
 
         room : labelCount * k + length (row .entries) ≤ length next
         room = omega (arith, explored .size, now .size, more, now .numbering .few)
@@ -148,8 +148,8 @@ module _ (first second : List ℕ) (count : ℕ) where
               size-known,
               ap length pairs′,
               pairs-length order′ numbers′ (row .known) (explored .known .held few .0),
-              ap length (found-step samePair same-pair (pairsAfter first second count) starts k (omega (arith, more, size-known))),
-              fold-longer samePair same-pair (pairsAfter first second count (getD (known k) k starts)) (known k),
+              ap length grown,
+              fold-longer samePair same-pair (after (getD (known k) k starts)) (known k),
             )
 
         written : Reached order′ numbers′ next′ (row .known) (k + 1)
@@ -166,9 +166,9 @@ module _ (first second : List ℕ) (count : ℕ) where
             }
 
         -- as it is copied
-        pub reached-next : (after : List ℕ) → after ≡ overwrite next (labelCount * k) (part (row .entries) 0 labelCount) →
-            Reached order′ numbers′ after (row .known) (k + 1)
-        reached-next after e =
+        pub reached-next : (copied : List ℕ) → copied ≡ overwrite next (labelCount * k) (part (row .entries) 0 labelCount) →
+            Reached order′ numbers′ copied (row .known) (k + 1)
+        reached-next copied e =
             subst (λ (t : List ℕ). Reached order′ numbers′ t (row .known) (k + 1))
             (sym (e ∙ ap (overwrite next (labelCount * k)) (take-all labelCount (row .entries) (omega (arith, explored .size))))) written
 
@@ -186,7 +186,7 @@ module _ (first second : List ℕ) (count : ℕ) where
       where
         whole : known k ≡ reachedPairs first second count
         whole =
-            found-all samePair same-pair (pairsAfter first second count) starts maxStates k (omega (arith, now .within, now .numbering .few))
+            found-all samePair same-pair after starts maxStates k (omega (arith, now .within, now .numbering .few))
             (omega (arith, size-known, done))
 
         at : (s l : ℕ) → l < labelCount → (b : Bool) → ltb s (length (reachedPairs first second count)) ≡ b →

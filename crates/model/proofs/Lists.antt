@@ -4,13 +4,14 @@ use mathlib.Core.Path.{_≡_, refl, sym, _∙_, ap, ap₂, subst}
 use mathlib.Core.Logic.{⊎-elim}
 use mathlib.Core.Bool.{Bool, true, false, _&&_, false≢true, and-comm}
 use mathlib.Core.List.{List, [], _∷_, _++_, map, append-assoc, append-nil, List·Memᴰ, List·Memᴰ·head, List·Memᴰ·tail, List·Memᴰ·not-nil, List·Memᴰ·cases-cons, List·Memᴰ·append-cases, Memᴰ·cast, Memᴰ·append-left, Memᴰ·append-right}
+use mathlib.Core.Option.{Option, some}
 use Prim.Native.Nat.{ℕ, zero, suc, _+_, _-_, _<_, _≤_}
 use native.Mathlib.Nat.{zero-add, add-zero, suc-add, add-suc, add-sub-of-le, le-of-suc-le-suc, not-suc-le-zero}
 use native.Mathlib.Omega.{arith}
 use lib.Dec.{ltb}
 use lib.ListN.{length, getD, take}
 use borrow.Author.Tests.{lt-ltb, le-ltb, ltb-false}
-use Rattle.model.specs.Lists.{consIf, keep, flatMap, upFrom}
+use Rattle.model.specs.Lists.{consIf, keep, flatMap, upFrom, listOf}
 
 module _ {ℓ} {A : Type ℓ} where
   consIf-append : (b : Bool) (x : A) (l l′ : List A) → consIf b x (l ++ l′) ≡ consIf b x l ++ l′
@@ -166,6 +167,11 @@ pub mem-upFrom : (k n : ℕ) {a : ℕ} → k ≤ a → a < k + n → List·Mem�
 mem-upFrom k n {a} h h′ =
     Memᴰ·cast {b = getD (upFrom k n) (a - k) 0} (omega (arith, getD-upFrom k n (a - k) 0 (omega arith)))
     (mem-getD (upFrom k n) (a - k) 0 (omega (arith, length-upFrom k n)))
+
+-- what is given for one of the numbers below n
+pub mem-given {ℓ} : {B : Type ℓ} (f : ℕ → Option B) (n k : ℕ) {b : B} → k < n → f k ≡ some b → List·Memᴰ b (flatMap (λ j. listOf (f j)) (upFrom 0 n))
+mem-given f n k {b} h e =
+    mem-flatMap (λ j. listOf (f j)) (mem-upFrom 0 n (omega arith) (omega (arith, h))) (subst (λ o. List·Memᴰ b (listOf o)) (sym e) (List·Memᴰ·head refl))
 
 -- of the numbers 0 to n − 1, those below b are 0 to b − 1
 pub keep-below-upFrom : (b n : ℕ) → b ≤ n → keep (λ m. ltb m b) (upFrom 0 n) ≡ upFrom 0 b

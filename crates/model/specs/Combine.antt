@@ -76,7 +76,7 @@ combineIn P Q =
     let few = cond (manyPairs P Q) (refuses tooManyPairs) due in
     cond (sameBy sameTask (P .tasks) (Q .tasks)) few (refuses outOfRange)
 
--- "the first plan's faults come before the second's"; so many bytes of output are lent
+-- "the first plan's faults come before the second's"; "No graph is built, so 5 is never given." So many bytes of output are lent.
 unfoldable pub combine : List ℕ → List ℕ → ℕ → Writing Plan
 combine first second lent =
     withRoom planRoom lent (withPlan (readPlan first) (λ P. withPlan (readPlan second) (λ Q. combineIn P Q)))

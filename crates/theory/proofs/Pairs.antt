@@ -3,7 +3,7 @@
 use mathlib.Core.Path.{_≡_, refl, sym, ap, ap₂, subst, _∙_}
 use mathlib.Core.Logic.{_↔_}
 use mathlib.Core.Bool.{Bool, true, false, _&&_, and-false}
-use mathlib.Core.List.{List, [], _∷_, _++_, List·Memᴰ, List·Memᴰ·head, List·Memᴰ·not-nil, List·Memᴰ·eq-of-singleton}
+use mathlib.Core.List.{List, [], _∷_, _++_, List·Memᴰ, List·Memᴰ·not-nil, List·Memᴰ·eq-of-singleton}
 use mathlib.Core.Option.{Option, none, some, Option·none-ne-some, Option·some-injective}
 use Prim.Native.Nat.{ℕ, _^_, _<_, _≤_}
 use native.Mathlib.Decide.{decLt}
@@ -17,7 +17,7 @@ use Rattle.model.specs.Discovery.{numberIn}
 use Rattle.model.specs.Plan.{Plan, nextIn}
 use Rattle.model.specs.Schedule.{admits, admitsFrom, stateAfter}
 use Rattle.model.specs.Combine.{Pair, starts, samePair, pairOf, pairNext, pairsNext, pairs, manyPairs, numbered, combined, PairReached, PairsReached, PairsExact, ManyReached}
-use Rattle.model.proofs.Lists.{mem-getD, mem-of-flatMap, mem-flatMap, mem-upFrom}
+use Rattle.model.proofs.Lists.{mem-getD, mem-of-flatMap, mem-given}
 use Rattle.model.proofs.Plan.{both}
 use Rattle.model.proofs.Tests.{true-and}
 use Rattle.model.proofs.Distinct.{distinct-at}
@@ -80,9 +80,7 @@ module _ (P Q : Plan) (sound-P : PlanSound P) where
 
   -- one label on
   next-mem : (u v : Pair) (l : ℕ) → l < 2 ^ length (P .tasks) → leadsTo u l ≡ some v → List·Memᴰ v (next u)
-  next-mem u v l h e =
-      mem-flatMap (λ k. listOf (leadsTo u k)) (mem-upFrom 0 (2 ^ length (P .tasks)) (omega arith) (omega (arith, h)))
-      (subst (λ o. List·Memᴰ v (listOf o)) (sym e) (List·Memᴰ·head refl))
+  next-mem u v l h e = mem-given (leadsTo u) (2 ^ length (P .tasks)) l h e
 
   led-run : {v : Pair} → Led v → PairReached P Q v
   led-run here = record { run = []; first = refl; second = refl }
