@@ -6,7 +6,7 @@ use mathlib.Core.List.{List}
 use Prim.Native.Nat.{ℕ, _≤_, _<_}
 use native.Mathlib.Omega.{arith}
 use borrow.Author.Tests.{lt-ltb, le-ltb}
-use lib.ListN.{length, getD}
+use lib.ListN.{length}
 use Rattle.model.specs.Bytes.{overwrite}
 use Rattle.model.specs.Calls.{Writing, refuses, writes, withPlan}
 use Rattle.model.specs.Discovery.{found}
@@ -16,12 +16,12 @@ use Rattle.model.specs.Refusals.{outOfRange, shortMemory, tooManyPairs}
 use Rattle.model.specs.Plan as model
 use Rattle.model.specs.Plan.{PlanAnswer, sound, readPlan}
 use Rattle.model.specs.PlanBytes.{planBytes, arcsOf}
-use Rattle.model.specs.Combine.{Pair, starts, samePair, pairNext, pairsNext, pairs, manyPairs, numbered, combined, sameTask, combineIn, combine, AdmitsBoth}
+use Rattle.model.specs.Combine.{Pair, starts, samePair, pairsNext, pairs, manyPairs, numberedNext, combined, sameTask, combineIn, combine, AdmitsBoth}
 use Rattle.theory.proofs.Combined.{combine-admits, combine-many}
 use Rattle.plan.specs.declared.Fault.the-variants.{OutOfRange}
 use Rattle.plan.specs.declared.Plan.{Plan}
 use Rattle.plan.specs.View.{tasksOf, arcsIn, planOf, Sized}
-use Rattle.plan.proofs.View.{tasks-length}
+use Rattle.plan.proofs.View.{tasks-size}
 use Rattle.refusals.specs.declared.Refusal as refusal
 use Rattle.refusals.specs.declared.Refusal.the-variants.{TooManyPairs}
 use Rattle.refusals.specs.declared.Answer.{Answer}
@@ -49,7 +49,7 @@ module _ (p q : Plan) (z : Sized p) (before : List ℕ) where
   other-tasks e = told-refusal planBytes due before (refusal.the-variants.Plan OutOfRange) (by-tests false (manyPairs (planOf p) (planOf q)) e refl)
 
   counted : length (tasksOf (p .tasks) (p .count)) ≡ p .count
-  counted = tasks-length (p .tasks) (p .count) (omega (arith, z .fits, z .room))
+  counted = tasks-size p z
 
   -- the pairs of the tables are the plans'
   same-pairs : reachedPairs (p .next) (q .next) (p .count) ≡ pairs (planOf p) (planOf q)
@@ -69,7 +69,7 @@ module _ (p q : Plan) (z : Sized p) (before : List ℕ) where
       replaced = record { tasks = p .tasks; count = p .count; policy = p .policy; states = r .states; next = r .next }
 
       abbrev automaton : List Pair → ℕ → List model.Arc
-      automaton us count = arcsOf (length us) count (λ s l. numbered us (pairNext (arcsIn (p .next)) (arcsIn (q .next)) (getD us s starts) l))
+      automaton us count = arcsOf (length us) count (numberedNext (arcsIn (p .next)) (arcsIn (q .next)) us)
 
       replaced-plan : planOf replaced ≡ combined (planOf p) (planOf q)
       unfolding combined

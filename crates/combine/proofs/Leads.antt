@@ -36,7 +36,7 @@ module _ (first second : List ℕ) (pair label : ℕ) where
   pub first-none : (s : ℕ) → nextOf s ≡ left → s ≡ 0 → Led 0
   first-none s e z = (ap (λ (o : Option ℕ). pairOf o right) (ap nextOf (sym z) ∙ e), omega arith)
 
-  -- the second does
+  -- the second one leads nowhere
   pub second-none : (t : ℕ) → nextOf t ≡ right → t ≡ 0 → Led 0
   second-none t e z = (no-right left ∙ ap (pairOf left) (ap nextOf (sym z) ∙ e), omega arith)
 

@@ -7,7 +7,7 @@ use Prim.Native.Nat.{ℕ, zero, suc, _+_, _/_, _%_, _<_}
 use native.Mathlib.Decide.{ℕ-discrete}
 use native.Mathlib.Numerals.{add-one}
 use native.Mathlib.Omega.{arith}
-use lib.ListN.{length, getD, set, take, replicate, length-set, length-map, length-append, List·getD-map}
+use lib.ListN.{length, getD, set, take, length-set, length-map, length-append, List·getD-map}
 use lib.Seq.{length-take-le, getD-take, getD-set-same, getD-set-other, take-suc-set}
 use Rattle.model.specs.Limits.{maxStates}
 use Rattle.model.specs.Discovery.{among, add, numberIn}
@@ -17,7 +17,7 @@ use Rattle.model.proofs.Discovery.{among-mem, number-at}
 use Rattle.theory.proofs.Pairs.{same-pair}
 use Rattle.combine.specs.Pairs.{statePairs, pairAt, pairsIn, Numbering, PairsKnown}
 
--- pairs with one number are the same
+-- one pair has one number
 pair-number : (c d : ℕ) → pairAt c ≡ pairAt d → c ≡ d
 pair-number c d e =
     let left : c / maxStates ≡ d / maxStates = ap (λ (u : Pair). u .left) e in
@@ -44,7 +44,7 @@ module _ (order numbers : List ℕ) (n : ℕ) (known : Numbering order numbers n
       ap (λ (d : ℕ). getD numbers d 0) (pair-number c (getD order (numberIn samePair us (pairAt c)) 0) (sym (r .1) ∙ pair-getD (numberIn samePair us (pairAt c)) below))
       ∙ known .back (numberIn samePair us (pairAt c)) below
 
-  -- and every other is not there
+  -- and what has a number is one of them
   number-there : (c i : ℕ) → getD numbers c 0 ≡ suc i → List·Memᴰ (pairAt c) us
   number-there c i e =
       let r = known .only c i e in
@@ -138,11 +138,6 @@ module _ (order numbers : List ℕ) (n : ℕ) (known : Numbering order numbers n
         join-new = record { held = λ few. (numbering, in-order ∙ sym joined); many = λ more. absurd (omega arith) }
 
 -- ---- none are known at first
-
-pub zeros : (n i : ℕ) → getD {A = ℕ} (replicate n 0) i 0 ≡ 0
-zeros zero i = refl
-zeros (suc n) zero = refl
-zeros (suc n) (suc i) = zeros n i
 
 pub no-pairs : (order numbers : List ℕ) → length order ≡ maxStates → length numbers ≡ statePairs → ((c : ℕ) → getD numbers c 0 ≡ 0) → Numbering order numbers 0
 no-pairs order numbers room size none = record {

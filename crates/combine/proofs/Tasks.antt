@@ -10,17 +10,17 @@ use Rattle.model.specs.Combine.{sameTask}
 use Rattle.model.proofs.Tests.{same-length, same-each, same-not}
 use Rattle.plan.specs.declared.Plan.{Plan}
 use Rattle.plan.specs.View.{emptyTask, taskView, planOf, Sized}
-use Rattle.plan.proofs.View.{tasks-length, task-given}
+use Rattle.plan.proofs.View.{tasks-size, task-given}
 
 module _ (p q : Plan) (z : Sized p) (y : Sized q) where
   abbrev Same : Bool → Type 0
   Same b = b ≡ sameBy sameTask (planOf p .tasks) (planOf q .tasks)
 
   first-length : length (planOf p .tasks) ≡ p .count
-  first-length = tasks-length (p .tasks) (p .count) (omega (arith, z .fits, z .room))
+  first-length = tasks-size p z
 
   second-length : length (planOf q .tasks) ≡ q .count
-  second-length = tasks-length (q .tasks) (q .count) (omega (arith, y .fits, y .room))
+  second-length = tasks-size q y
 
   pub other-count : (p .count ≡ q .count → ⊥) → Same false
   other-count n = sym (same-length sameTask (planOf p .tasks) (planOf q .tasks) (λ e. n (sym first-length ∙ e ∙ second-length)))

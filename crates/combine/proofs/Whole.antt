@@ -17,11 +17,11 @@ use Rattle.words.proofs.Memory.{overwrite-length, overwrite-inside, overwrite-o
 use Rattle.model.specs.Bytes.{part, overwrite}
 use Rattle.model.specs.Limits.{maxStates, maxTasks}
 use Rattle.model.specs.Discovery.{add, found}
-use Rattle.model.specs.Combine.{Pair, starts, samePair, numbered}
+use Rattle.model.specs.Combine.{Pair, starts, samePair, numbered, numberedNext}
 use Rattle.model.proofs.Lists.{mem-given}
 use Rattle.model.proofs.Discovery.{known-found, found-step, found-all, found-many, fold-longer, fold-getD}
 use Rattle.theory.proofs.Pairs.{same-pair}
-use Rattle.plan.specs.View.{labelCount, pairCount, nextOf}
+use Rattle.plan.specs.View.{labelCount, pairCount, arcsIn, nextOf}
 use Rattle.plan.proofs.Arcs.{table-arcs}
 use Rattle.combine.specs.declared.Row.{Row}
 use Rattle.combine.specs.Pairs.{pairAt, pairsIn, pairLeads, pairsAfter, reachedPairs, Numbering, PairsKnown, PairExplored, IsProduct}
@@ -41,7 +41,7 @@ module _ (first second : List ℕ) (count : ℕ) where
 
   -- where a label leads the pair s of these, by number
   abbrev leadsTo : List Pair → ℕ → ℕ → Option ℕ
-  leadsTo us s l = numbered us (pairLeads first second (getD us s starts) l)
+  leadsTo = numberedNext (arcsIn first) (arcsIn second)
 
   -- the first k pairs have been explored, and their rows are written
   pub record Reached (order numbers next : List ℕ) (n k : ℕ) : Type 0 where

@@ -10,7 +10,7 @@ use Rattle.model.specs.Limits.{maxStates}
 use Rattle.model.specs.Lists.{listOf}
 use Rattle.model.specs.Discovery.{add, found}
 use Rattle.model.specs.PlanBytes.{arcsOf}
-use Rattle.model.specs.Combine.{Pair, starts, samePair, pairNext, pairsNext, numbered}
+use Rattle.model.specs.Combine.{Pair, starts, samePair, pairNext, pairsNext, numbered, numberedNext}
 use Rattle.plan.specs.View.{labelCount, pairCount, arcsIn, nextOf}
 use Rattle.combine.specs.declared.Step.{Step}
 use Rattle.combine.specs.declared.Row.{Row}
@@ -80,5 +80,4 @@ pub record IsProduct (first second : List ℕ) (count : ℕ) (r : Automaton) : T
   pub size : length (r .next) ≡ pairCount
   pub arcs : r .states ≤ maxStates →
       arcsIn (r .next)
-      ≡ arcsOf (length (reachedPairs first second count)) count
-      (λ s l. numbered (reachedPairs first second count) (pairLeads first second (getD (reachedPairs first second count) s starts) l))
+      ≡ arcsOf (length (reachedPairs first second count)) count (numberedNext (arcsIn first) (arcsIn second) (reachedPairs first second count))

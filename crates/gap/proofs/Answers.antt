@@ -18,7 +18,7 @@ use Rattle.model.proofs.Plan.{between-below, between-above, between-inside}
 use Rattle.theory.proofs.Gaps.{task-gap-has}
 use Rattle.plan.specs.declared.Plan.{Plan}
 use Rattle.plan.specs.View.{planOf, Sized}
-use Rattle.plan.proofs.View.{tasks-length}
+use Rattle.plan.proofs.View.{tasks-size}
 use Rattle.refusals.specs.declared.Refusal.the-variants.{BadGap}
 use Rattle.refusals.specs.declared.Answer.{Answer}
 use Rattle.refusals.specs.declared.Answer.the-variants.{Refused, Written}
@@ -36,7 +36,7 @@ module _ (p : Plan) (z : Sized p) (task slots : ℕ) (before : List ℕ) where
   due = gapIn (planOf p) (isTask task) known slots
 
   counted : length (planOf p .tasks) ≡ p .count
-  counted = tasks-length (p .tasks) (p .count) (omega (arith, z .fits, z .room))
+  counted = tasks-size p z
 
   by-tests : (x y : Bool) → between 1 slots maxGap ≡ x → known ≡ y → due ≡ cond (x && y) (writes (gapPlan (planOf p) (isTask task) slots)) (refuses badGap)
   by-tests x y e f = λ i. cond (e i && f i) (writes (gapPlan (planOf p) (isTask task) slots)) (refuses badGap)

@@ -18,7 +18,7 @@ use Rattle.model.proofs.Lists.{getD-table, length-upFrom}
 use Rattle.theory.proofs.Sums.{sum-zero}
 use Rattle.plan.specs.declared.Plan.{Plan}
 use Rattle.plan.specs.View.{tasksOf, labelCount, pairCount, arcsIn, nextOf, entryOf, planOf, Sized}
-use Rattle.plan.proofs.View.{tasks-length, pair-state, pair-label}
+use Rattle.plan.proofs.View.{tasks-size, pair-state, pair-label}
 use Rattle.plan.proofs.Arcs.{table-arcs}
 use Rattle.gap.specs.declared.Gap.{Gap}
 use Rattle.gap.specs.Automaton.{Fits, leads, pairEntry}
@@ -112,4 +112,4 @@ module _ (p : Plan) (z : Sized p) (task slots : ℕ) (table : List ℕ) (e : tab
       same : arcsIn table ≡ arcsOf slots (length (tasksOf (p .tasks) (p .count))) (λ s l. gapNext slots s (releases (isTask task) (length (tasksOf (p .tasks) (p .count))) l))
       same =
           gap-arcs (record { count = p .count; task = task; slots = slots }) (record { few = z .fits; numbered = t1; known = t2; shortest = s1; longest = s2 }) table e
-          ∙ ap (λ (n : ℕ). arcsOf slots n (λ s l. gapNext slots s (releases (isTask task) n l))) (sym (tasks-length (p .tasks) (p .count) (omega (arith, z .fits, z .room))))
+          ∙ ap (λ (n : ℕ). arcsOf slots n (λ s l. gapNext slots s (releases (isTask task) n l))) (sym (tasks-size p z))

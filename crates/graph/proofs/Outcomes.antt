@@ -9,7 +9,7 @@ use native.Mathlib.Decide.{decLt}
 use native.Mathlib.Omega.{arith}
 use lib.Bits.{bitOr, or-lt}
 use lib.Dec.{eqb, ltb}
-use lib.ListN.{length, getD, set, replicate, length-set, length-replicate, getD-replicate, List·getD-eq-default}
+use lib.ListN.{length, getD, set, length-set, length-replicate}
 use lib.Pow.{pow-mono}
 use lib.Seq.{getD-set-same, getD-set-other}
 use borrow.Author.Tests.{lt-ltb}
@@ -21,6 +21,7 @@ use Rattle.model.specs.Masks.{maskCount}
 use Rattle.model.proofs.Tests.{same-number}
 use Rattle.policy.specs.View.{Tasks, TasksInRange}
 use Rattle.policy.proofs.Cells.{window-low}
+use Rattle.model.proofs.Lists.{getD-default}
 use Rattle.model.proofs.Discovery.{fold-either, fold-holds, add-own, add-other}
 use Rattle.theory.proofs.Edges.{mem-choices}
 use Rattle.graph.specs.Outcomes.{patternCount, Outcome, outcomeOf, outcomes, Best, Notes, notNoted, note, notedOf, nothingNoted}
@@ -209,12 +210,7 @@ nothing-size = length-replicate patternCount notNoted
 
 nothing-score : (p : ℕ) → scoreAt nothingNoted p ≡ 0
 unfolding nothingNoted
-nothing-score p = by (decLt p patternCount)
-  where
-    by : Dec (p < patternCount) → scoreAt nothingNoted p ≡ 0
-    by (yes h) = ap (λ (b : Best). b .score) (getD-replicate patternCount p notNoted notNoted h)
-    by (no h) =
-        ap (λ (b : Best). b .score) (List·getD-eq-default (replicate patternCount notNoted) notNoted {n = p} (omega (arith, length-replicate patternCount notNoted)))
+nothing-score p = ap (λ (b : Best). b .score) (getD-default patternCount p notNoted)
 
 no-order : nothingNoted .order ≡ []
 unfolding nothingNoted

@@ -9,7 +9,7 @@ use Prim.Native.Nat.{ℕ, zero, suc, _+_, _-_, _<_, _≤_}
 use native.Mathlib.Nat.{zero-add, add-zero, suc-add, add-suc, add-sub-of-le, le-of-suc-le-suc, not-suc-le-zero}
 use native.Mathlib.Omega.{arith}
 use lib.Dec.{ltb}
-use lib.ListN.{length, getD, take}
+use lib.ListN.{length, getD, take, replicate}
 use borrow.Author.Tests.{lt-ltb, le-ltb, ltb-false}
 use Rattle.model.specs.Lists.{consIf, keep, flatMap, upFrom, listOf}
 
@@ -91,6 +91,12 @@ module _ {ℓ} {A : Type ℓ} where
   pub place : {a : A} {l : List A} (d : A) → List·Memᴰ a l → (i : ℕ) × (i < length l) × (getD l i d ≡ a)
   place d (List·Memᴰ·head p) = (zero, omega arith, sym p)
   place d (List·Memᴰ·tail m) = let r = place d m in (suc (r .0), omega (arith, r .1), r .2)
+
+  -- every entry of a list of defaults is the default
+  pub getD-default : (n k : ℕ) (d : A) → getD (replicate n d) k d ≡ d
+  getD-default zero k d = refl
+  getD-default (suc n) zero d = refl
+  getD-default (suc n) (suc k) d = getD-default n k d
 
 module _ {ℓ κ} {A : Type ℓ} {B : Type κ} where
   -- two functions that agree on the list

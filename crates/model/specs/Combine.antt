@@ -56,12 +56,16 @@ abbrev pub numbered : List Pair → Option Pair → Option ℕ
 numbered us none = none
 numbered us (some v) = some (numberIn samePair us v)
 
+-- where a label leads the pair s of these, by number
+abbrev pub numberedNext : List Arc → List Arc → List Pair → ℕ → ℕ → Option ℕ
+numberedNext as′ bs us s l = numbered us (pairNext as′ bs (getD us s starts) l)
+
 -- "The policy is the first plan's."
 unfoldable pub combined : Plan → Plan → Plan
 combined P Q =
     let us = pairs P Q in
     let count = length (P .tasks) in
-    let arcs = arcsOf (length us) count (λ s l. numbered us (pairNext (P .arcs) (Q .arcs) (getD us s starts) l)) in
+    let arcs = arcsOf (length us) count (numberedNext (P .arcs) (Q .arcs) us) in
     record { tasks = P .tasks; policy = P .policy; states = length us; arcs = arcs }
 
 -- ---- the call

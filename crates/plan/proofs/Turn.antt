@@ -18,6 +18,7 @@ use Rattle.plan.specs.declared.Outcome.{Outcome}
 use Rattle.plan.specs.declared.Outcome.the-variants.{Sound, Faulty}
 use Rattle.plan.specs.declared.PlanRead.{PlanRead}
 use Rattle.plan.specs.declared.Task.{Task}
+use Rattle.model.proofs.Lists.{getD-default}
 use Rattle.plan.specs.View.{faultNumber, checkNumber, emptyTask, readingOf, nothingRead, emptyTable, answerOf, answered, refusal, FaultAlone, Sized, arcsIn, arcsBelow, arcAt, pairCount, Within, Holds, Readable, ReadableArc, Reads}
 use Rattle.plan.proofs.View.{task-count, label-low, least-rises}
 
@@ -27,12 +28,6 @@ pub record Reached (s next : List ℕ) (r : Reading) (at : ℕ) : Type 0 where
   pub within : Within r
   pub holds : Holds next (r .least)
   pub rest : model.readPlan s ≡ model.readFrom (drop at s) (readingOf r (arcsIn next))
-
--- every entry of a list of defaults is the default
-getD-default : {A : Type 0} (n k : ℕ) (d : A) → getD (replicate n d) k d ≡ d
-getD-default zero k d = refl
-getD-default (suc n) zero d = refl
-getD-default (suc n) (suc k) d = getD-default n k d
 
 -- a table of zeros has no arc
 empty-below : (n k : ℕ) → arcsBelow (replicate n 0) k ≡ []

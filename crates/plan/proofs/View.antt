@@ -16,14 +16,18 @@ use Rattle.model.specs.Limits.{maxStates}
 use Rattle.model.specs.Plan as model
 use Rattle.model.specs.Plan.{Arc, nextIn, rising, pairBelow, pairRises, unknown, width, mayFollow, arcInRange, inRange, firstFault, fault}
 use Rattle.model.proofs.Plan.{rising-last, ranged-first, arc-ranged, orElse, orElse-none, next-append}
+use Rattle.plan.specs.declared.Plan.{Plan}
 use Rattle.plan.specs.declared.Reading.{Reading}
 use Rattle.plan.specs.declared.Task.{Task}
 use Rattle.plan.specs.declared.Outcome.{Outcome}
-use Rattle.plan.specs.View.{emptyTask, taskView, tasksOf, labelCount, pairCount, arcAt, arcsBelow, arcsIn, nextOf, readingOf, fromLeast, faultFromLeast, answerWith, Within, Holds}
+use Rattle.plan.specs.View.{emptyTask, taskView, tasksOf, labelCount, pairCount, arcAt, arcsBelow, arcsIn, nextOf, readingOf, fromLeast, faultFromLeast, planOf, answerWith, Sized, Within, Holds}
 
 -- as many tasks as the count says
 pub tasks-length : (ts : List Task) (n : ℕ) → n ≤ length ts → length (tasksOf ts n) ≡ n
 tasks-length ts n h = length-map (take n ts) taskView ∙ length-take-le n ts h
+
+pub tasks-size : (p : Plan) → Sized p → length (planOf p .tasks) ≡ p .count
+tasks-size p z = tasks-length (p .tasks) (p .count) (omega (arith, z .fits, z .room))
 
 -- the model's task at a place
 pub task-given : (ts : List Task) (n i : ℕ) → i < n → taskView (getD ts i emptyTask) ≡ getD (tasksOf ts n) i (taskView emptyTask)

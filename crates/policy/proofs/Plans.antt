@@ -4,16 +4,12 @@ use mathlib.Core.List.{List}
 use mathlib.Core.Option.{some}
 use Prim.Native.Nat.{ℕ, _<_}
 use native.Mathlib.Nat.{lt-of-lt-of-le}
-use native.Mathlib.Omega.{arith}
-use lib.ListN.{length}
 use Rattle.model.specs.Plan as model
 use Rattle.model.specs.Plan.{nextIn, IsSound}
 use Rattle.model.specs.Limits.{maxStates}
 use Rattle.theory.proofs.Sound.{sound-plan, nextIn-arc}
 use Rattle.theory.proofs.Schedules.{task-sound}
-use Rattle.plan.proofs.View.{tasks-length}
-use Rattle.plan.specs.View.{tasksOf, arcsIn, StatesFit, Sized}
-use Rattle.plan.specs.declared.Plan.{Plan}
+use Rattle.plan.specs.View.{arcsIn, StatesFit}
 use Rattle.policy.specs.View.{TasksInRange}
 
 -- a sound plan's tasks are in range
@@ -31,7 +27,3 @@ states-fit P s next e = record { to = λ from l t h. fits from l t (subst (λ as
     fits from l t h =
         let a = nextIn-arc (P .arcs) from l t h in
         subst (λ (n : ℕ). n < maxStates) (a .4) (lt-of-lt-of-le (sound-plan P s .arc (a .0) (a .1) .toBelow) (sound-plan P s .statesFit))
-
--- it has as many tasks as its count says
-pub tasks-size : (p : Plan) → Sized p → length (tasksOf (p .tasks) (p .count)) ≡ p .count
-tasks-size p s = tasks-length (p .tasks) (p .count) (omega (arith, s .fits, s .room))

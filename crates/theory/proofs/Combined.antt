@@ -7,14 +7,14 @@ use mathlib.Core.Option.{Option}
 use Prim.Native.Nat.{ℕ, _≤_}
 use native.Mathlib.Omega.{arith}
 use lib.Dec.{ltb}
-use lib.ListN.{length, getD}
+use lib.ListN.{length}
 use Rattle.model.specs.Calls.{refuses, writes, withPlan, withRoom}
 use Rattle.model.specs.Limits.{planRoom}
 use Rattle.model.specs.Refusals.{outOfRange, tooManyPairs, shortMemory}
 use Rattle.model.specs.Lists.{sameBy}
 use Rattle.model.specs.Plan.{Plan, sound, readPlan}
 use Rattle.model.specs.PlanBytes.{planBytes}
-use Rattle.model.specs.Combine.{starts, pairNext, pairs, manyPairs, numbered, combined, combineIn, combine, sameTask, AdmitsBoth, ManyReached}
+use Rattle.model.specs.Combine.{pairs, manyPairs, numberedNext, combined, combineIn, combine, sameTask, AdmitsBoth, ManyReached}
 use Rattle.theory.proofs.Sound.{PlanSound, read-sound}
 use Rattle.theory.proofs.Automata.{arcs-rise, arcs-sound}
 use Rattle.theory.proofs.PlanRead.{plan-read-back}
@@ -24,7 +24,7 @@ use Rattle.theory.proofs.Pairs.{combined-runs, combined-next, some-pair
 
 module _ (P Q : Plan) (s : PlanSound P) (few : manyPairs P Q ≡ false) where
   abbrev to : ℕ → ℕ → Option ℕ
-  to u l = numbered (pairs P Q) (pairNext (P .arcs) (Q .arcs) (getD (pairs P Q) u starts) l)
+  to = numberedNext (P .arcs) (Q .arcs) (pairs P Q)
 
   pub combined-sound : PlanSound (combined P Q)
   unfolding combined

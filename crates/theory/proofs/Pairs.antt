@@ -16,7 +16,7 @@ use Rattle.model.specs.Lists.{upFrom, listOf}
 use Rattle.model.specs.Discovery.{numberIn}
 use Rattle.model.specs.Plan.{Plan, nextIn}
 use Rattle.model.specs.Schedule.{admits, admitsFrom, stateAfter}
-use Rattle.model.specs.Combine.{Pair, starts, samePair, pairOf, pairNext, pairsNext, pairs, manyPairs, numbered, combined, PairReached, PairsReached, PairsExact, ManyReached}
+use Rattle.model.specs.Combine.{Pair, starts, samePair, pairOf, pairNext, pairsNext, pairs, manyPairs, numbered, numberedNext, combined, PairReached, PairsReached, PairsExact, ManyReached}
 use Rattle.model.proofs.Lists.{mem-getD, mem-of-flatMap, mem-given}
 use Rattle.model.proofs.Plan.{both}
 use Rattle.model.proofs.Tests.{true-and}
@@ -150,7 +150,7 @@ module _ (P Q : Plan) (sound-P : PlanSound P) where
         (next-mem (getD (pairs P Q) i starts) v l k e)
 
     abbrev to : ℕ → ℕ → Option ℕ
-    to s l = numbered (pairs P Q) (leadsTo (getD (pairs P Q) s starts) l)
+    to = numberedNext (P .arcs) (Q .arcs) (pairs P Q)
 
     -- every next state is one of the states
     pub combined-next : (s l t : ℕ) → s < length (pairs P Q) → l < 2 ^ length (P .tasks) → to s l ≡ some t → t < length (pairs P Q)

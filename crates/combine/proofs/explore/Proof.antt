@@ -6,7 +6,7 @@ use native.Mathlib.Omega.{arith}
 use lib.Pow.{pow-mono}
 use Rattle.plan.specs.View.{labelCount}
 use Rattle.combine.specs.Pairs.{pairAt, pairsIn}
-use Rattle.combine.proofs.Numbers.{zeros}
+use Rattle.model.proofs.Lists.{getD-default}
 use Rattle.combine.proofs.Growing.{Part, part-none, part-more, part-many, part-all}
 use borrow.Author.Needs.{needs}
 use Rattle.combine.proofs.explore.Statement.{statement}
@@ -27,7 +27,7 @@ loop-holds : tie.Need-loop-holds Inv-loop μ-loop
 loop-holds c =
     let s = c .before in
     let most : 2 ^ s .args .count ≤ labelCount = pow-mono (s .pre .2) in
-    (omega arith, omega (arith, most, c .labels .ensures), c .labels .ensures, part-none _ _ _ _ _ _ _ (s .args .n) (s .pre .3) refl refl (zeros labelCount))
+    (omega arith, omega (arith, most, c .labels .ensures), c .labels .ensures, part-none _ _ _ _ _ _ _ (s .args .n) (s .pre .3) refl refl (λ l. getD-default labelCount l 0))
 
 cast-follow : tie.Need-cast-follow Inv-loop μ-loop
 cast-follow c = omega arith

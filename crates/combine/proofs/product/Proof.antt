@@ -5,10 +5,11 @@ use mathlib.Core.List.{List}
 use Prim.Native.Nat.{ℕ, _-_}
 use native.Mathlib.Omega.{arith}
 use lib.ListN.{length, getD, length-replicate}
+use Rattle.model.proofs.Lists.{getD-default}
 use Rattle.model.specs.Limits.{maxStates}
 use Rattle.plan.specs.View.{pairCount}
 use Rattle.combine.specs.Pairs.{statePairs}
-use Rattle.combine.proofs.Numbers.{zeros, no-pairs}
+use Rattle.combine.proofs.Numbers.{no-pairs}
 use Rattle.combine.proofs.Whole.{Reached, reached-start, reached-many, reached-next, reached-all}
 use borrow.Author.Needs.{needs}
 use Rattle.combine.proofs.product.Statement.{statement}
@@ -31,12 +32,12 @@ empty-table-requires c κs = search needs
 join-requires : tie.Need-join-requires Inv-loop μ-loop
 join-requires c κs =
     let z = c .before .before .before .no-numbers .ensures in
-    no-pairs _ _ refl (ap length z ∙ length-replicate {A = ℕ} statePairs 0) (λ n. ap (λ (t : List ℕ). getD t n 0) z ∙ zeros statePairs n)
+    no-pairs _ _ refl (ap length z ∙ length-replicate {A = ℕ} statePairs 0) (λ n. ap (λ (t : List ℕ). getD t n 0) z ∙ getD-default statePairs n 0)
 
 loop-holds : tie.Need-loop-holds Inv-loop μ-loop
 loop-holds c =
     let z = c .before .before .before .empty-table .ensures in
-    reached-start _ _ _ _ _ _ (c .join .result) (c .join .ensures) (ap length z ∙ length-replicate {A = ℕ} pairCount 0) (λ n. ap (λ (t : List ℕ). getD t n 0) z ∙ zeros pairCount n)
+    reached-start _ _ _ _ _ _ (c .join .result) (c .join .ensures) (ap length z ∙ length-replicate {A = ℕ} pairCount 0) (λ n. ap (λ (t : List ℕ). getD t n 0) z ∙ getD-default pairCount n 0)
 
 array-read-pair : tie.Need-array-read-pair Inv-loop μ-loop
 array-read-pair c = omega (arith, c .before .loop .inv .numbering .few)

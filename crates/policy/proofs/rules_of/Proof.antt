@@ -2,7 +2,8 @@
 use mathlib.Core.Path.{refl}
 use borrow.Author.Needs.{needs}
 use Rattle.plan.specs.View.{planOf}
-use Rattle.policy.proofs.Plans.{tasks-range, tasks-size}
+use Rattle.plan.proofs.View.{tasks-size}
+use Rattle.policy.proofs.Plans.{tasks-range}
 use Rattle.policy.proofs.rules_of.Statement.{statement}
 use Rattle.policy.proofs.rules_of.Tie as tie
 
