@@ -36,15 +36,18 @@ int main(void) {
     static const uint8_t gap[] = {1, 1, 1, 1, 1, 2, 2, 3, 2, 1, 3, 2, 4, 0, 0, 0, 4, 0, 1, 1, 4, 0, 2, 0, 4, 0, 3, 1, 4, 1, 0, 0, 4, 1, 2, 0, 5};
     static const uint8_t other[] = {1, 1, 1, 1, 2, 1, 3, 1, 5};
     uint64_t numbers[4] = {7, 7, 7, 7};
+    uint64_t passes[1] = {7};
     uint64_t n;
 
     memset(certificate, 7, sizeof certificate);
-    expect(jovnetal_solve(plan, 3, work, sizeof work, certificate, sizeof certificate) == JOVNETAL_REFUSED + 1, "a plan cut off is refused with 1");
-    expect(jovnetal_solve(plan, sizeof plan, work, sizeof work - 1, certificate, sizeof certificate) == JOVNETAL_REFUSED + 11,
+    expect(jovnetal_solve(plan, 3, work, sizeof work, certificate, sizeof certificate, passes) == JOVNETAL_REFUSED + 1,
+           "a plan cut off is refused with 1");
+    expect(jovnetal_solve(plan, sizeof plan, work, sizeof work - 1, certificate, sizeof certificate, passes) == JOVNETAL_REFUSED + 11,
            "short work memory is refused with 11");
-    expect(all(certificate, sizeof certificate, 7), "a refusal leaves the output as it was");
+    expect(all(certificate, sizeof certificate, 7) && passes[0] == 7, "a refusal leaves the output and the passes as they were");
 
-    n = jovnetal_solve(plan, sizeof plan, work, sizeof work, certificate, sizeof certificate);
+    n = jovnetal_solve(plan, sizeof plan, work, sizeof work, certificate, sizeof certificate, passes);
+    expect(passes[0] == 2, "the potentials are found in two passes");
     expect(n < JOVNETAL_REFUSED && all(certificate + n, sizeof certificate - n, 7), "bytes past the certificate are as they were");
     expect(all(work, sizeof work, 0), "work memory is zero after a call");
 

@@ -164,7 +164,7 @@ fn main() {
         }
     }
     let mut work = vec![0; 65536];
-    let certificate = proved_certificate(&plan, &mut work);
+    let (certificate, _) = proved_certificate(&plan, &mut work);
     let [p, q, n, k] = proved(&plan, &certificate, &mut work).unwrap();
     assert_eq!((n, count), (897, 583_571));
     println!("{n} nodes, {count} edges, p/q {p}/{q}, K {k}");

@@ -141,15 +141,16 @@ pub fn gcd(a: u32, b: u32) -> u32 {
 }
 
 extern "C" {
-    fn jovnetal_solve(plan: *const u8, plan_len: usize, work: *mut u8, work_len: usize, out: *mut u8, out_len: usize) -> u64;
+    fn jovnetal_solve(plan: *const u8, plan_len: usize, work: *mut u8, work_len: usize, out: *mut u8, out_len: usize, passes: *mut u64) -> u64;
 }
 
-// The certificate that the proved solver writes.
-pub fn proved_certificate(plan: &[u8], work: &mut [u8]) -> Vec<u8> {
+// The certificate that the proved solver writes, and the number of passes for its fraction.
+pub fn proved_certificate(plan: &[u8], work: &mut [u8]) -> (Vec<u8>, u64) {
     let mut out = vec![0; 15375];
-    let n = unsafe { jovnetal_solve(plan.as_ptr(), plan.len(), work.as_mut_ptr(), work.len(), out.as_mut_ptr(), out.len()) };
+    let mut passes = 0;
+    let n = unsafe { jovnetal_solve(plan.as_ptr(), plan.len(), work.as_mut_ptr(), work.len(), out.as_mut_ptr(), out.len(), &mut passes) };
     out.truncate(n as usize);
-    out
+    (out, passes)
 }
 
 // The answer of a call; its milliseconds, where they are the fewest so far.

@@ -52,14 +52,14 @@ fn cycle(links: &[Option<Link>], u: usize, last: Edge, v: usize) -> Option<Vec<(
     Some(steps)
 }
 
-// The distances at p/q, by passes over the nodes that wait; or a cycle that costs less than 0.
-fn settle<'a>(n: usize, p: u32, q: u32, edges: &impl Fn(usize) -> Cow<'a, [Edge]>) -> Result<Vec<i64>, Vec<(usize, Edge)>> {
+// The distances at p/q, by passes over the nodes that wait, and the number of passes; or a cycle that costs less than 0.
+fn settle<'a>(n: usize, p: u32, q: u32, edges: &impl Fn(usize) -> Cow<'a, [Edge]>) -> Result<(Vec<i64>, u64), Vec<(usize, Edge)>> {
     let none = Edge { label: 0, to: 0, kept: 0, ideal: 0 };
     let mut links: Vec<Option<Link>> = vec![None; n];
     links[0] = Some(Link { distance: 0, parent: 0, edge: none, waits: true });
-    let mut moved = true;
+    let (mut moved, mut passes) = (true, 0);
     while moved {
-        moved = false;
+        (moved, passes) = (false, passes + 1);
         for u in 0..n {
             let Some(Link { distance: before, waits: true, .. }) = links[u] else { continue };
             for &edge in edges(u).iter() {
@@ -76,7 +76,7 @@ fn settle<'a>(n: usize, p: u32, q: u32, edges: &impl Fn(usize) -> Cow<'a, [Edge]
             links[u].as_mut().unwrap().waits = false;
         }
     }
-    Ok(links.iter().map(|l| l.unwrap().distance).collect())
+    Ok((links.iter().map(|l| l.unwrap().distance).collect(), passes))
 }
 
 // The first masks of the edge's label that leave its node's pattern with its gain.
@@ -90,17 +90,18 @@ fn masks(plan: &Plan, graph: &Graph, from: usize, edge: &Edge) -> [u8; 4] {
     found.unwrap()
 }
 
-// From 1/0 down: each cycle that costs less than 0 gives the next fraction. The certificate's bytes, and the number of fractions.
-fn solve<const KEEP: bool>(plan: &[u8]) -> (Vec<u8>, usize) {
+// From 1/0 down: each cycle that costs less than 0 gives the next fraction. The certificate's bytes with the passes for its fraction, and the
+// number of fractions.
+fn solve<const KEEP: bool>(plan: &[u8]) -> ((Vec<u8>, u64), usize) {
     let plan = read_plan(plan);
     let graph = discover::<true>(&plan).unwrap();
     let n = graph.nodes.len();
     let kept: Vec<_> = if KEEP { (0..n).map(|u| best_edges(&plan, &graph, u)).collect() } else { vec![] };
     let edges = |u: usize| if KEEP { Cow::Borrowed(&kept[u][..]) } else { Cow::Owned(best_edges(&plan, &graph, u)) };
     let (mut p, mut q, mut steps, mut fractions) = (1, 0, vec![], 1);
-    let distances = loop {
+    let (distances, passes) = loop {
         match settle(n, p, q, &edges) {
-            Ok(distances) => break distances,
+            Ok(settled) => break settled,
             Err(found) => {
                 let kept = found.iter().map(|(_, e)| e.kept).sum();
                 let ideal = found.iter().map(|(_, e)| e.ideal).sum();
@@ -126,7 +127,7 @@ fn solve<const KEEP: bool>(plan: &[u8]) -> (Vec<u8>, usize) {
         out.extend(masks(&plan, &graph, *u, edge));
     }
     out.push(0x15);
-    (out, fractions)
+    ((out, passes), fractions)
 }
 
 fn main() {
@@ -137,15 +138,16 @@ fn main() {
     ];
     let mut work = vec![0; 65536];
     for plan in [&large[..], &falling[..]] {
-        let (certificate, fractions) = solve::<true>(plan);
+        let (solved, fractions) = solve::<true>(plan);
+        let (certificate, passes) = &solved;
         let [p, q] = [1, 5].map(|at| u32::from_be_bytes(certificate[at..at + 4].try_into().unwrap()));
         let n = u16::from_be_bytes([certificate[9], certificate[10]]);
-        println!("{n} nodes, p/q {p}/{q}, the last of {fractions} fractions");
+        println!("{n} nodes, p/q {p}/{q}, the last of {fractions} fractions, after {passes} passes");
         let (mut ours, mut anew, mut kept) = (f64::MAX, f64::MAX, f64::MAX);
         for _ in 0..10 {
-            assert!(timed(&mut ours, || proved_certificate(black_box(plan), &mut work)) == certificate);
-            assert!(timed(&mut anew, || solve::<false>(black_box(plan))).0 == certificate);
-            assert!(timed(&mut kept, || solve::<true>(black_box(plan))).0 == certificate);
+            assert!(timed(&mut ours, || proved_certificate(black_box(plan), &mut work)) == solved);
+            assert!(timed(&mut anew, || solve::<false>(black_box(plan))).0 == solved);
+            assert!(timed(&mut kept, || solve::<true>(black_box(plan))).0 == solved);
         }
         println!("solve: proved {ours:.1} ms, plain Rust {anew:.1} ms, ratio {:.2}", ours / anew);
         println!("solve: proved {ours:.1} ms, plain Rust with the edges kept {kept:.1} ms, ratio {:.2}", ours / kept);

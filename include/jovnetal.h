@@ -23,10 +23,13 @@ extern "C" {
 /* A call that writes bytes answers their number, or the number of the refusal and this. */
 #define JOVNETAL_REFUSED 65536
 
-/* Writes the certificate of a plan to out.
+/* Writes the certificate of a plan to out, and to passes the number of passes over all edges in which the solver found the potentials of
+   the fraction that it writes, the last included: at most N.
    Answers the number of bytes written, or JOVNETAL_REFUSED + n: 11, 1 to 5.
-   Memory: bytes of out past the last one written keep what they had; after a refusal all do. work is all zero, or as it was after 11. */
-uint64_t jovnetal_solve(const uint8_t *plan, size_t plan_length, uint8_t *work, size_t work_length, uint8_t *out, size_t out_length);
+   Memory: bytes of out past the last one written keep what they had; after a refusal all do, and so does passes. work is all zero, or as
+   it was after 11. */
+uint64_t jovnetal_solve(const uint8_t *plan, size_t plan_length, uint8_t *work, size_t work_length, uint8_t *out, size_t out_length,
+                        uint64_t passes[1]);
 
 /* Checks a certificate against a plan, whoever wrote it.
    Answers 0, with p, q, N and K in numbers, or the number of the refusal: 11, 1 to 5, 6 to 10.

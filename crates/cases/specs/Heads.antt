@@ -1,4 +1,4 @@
--- Whether a certificate begins with a head.
+-- What is written for a plan by the solver: whether its certificate begins with a head, and the line of its passes.
 use mathlib.Core.Path.{_≡_}
 use mathlib.Core.Bool.{Bool, true}
 use mathlib.Core.List.{List}
@@ -6,7 +6,7 @@ use Prim.Native.Nat.{ℕ}
 use lib.ListN.{length, take}
 use Rattle.model.specs.Limits.{workRoom, certificateRoom}
 use Rattle.model.specs.Solve.{solve}
-use Rattle.solve_text.specs.Bytes.{Puts}
+use Rattle.solve_text.specs.Bytes.{inBytes, inPasses, Puts}
 
 -- r says whether the bytes begin with the head
 abbrev pub Begins : List ℕ → List ℕ → Bool → Type 0
@@ -18,5 +18,11 @@ pub record Compared (plan head : List ℕ) (r : Bool) : Type 0 where
   pub before : List ℕ
   pub after : List ℕ
   pub size : ℕ
-  pub written : Puts (solve plan workRoom certificateRoom) before after size
+  pub written : Puts inBytes (solve plan workRoom certificateRoom) before after size
   pub begins : Begins (take size after) head r
+
+-- so many bytes have the line that is due for the plan, of its number of passes or of its refusal
+pub record PassesLine (plan : List ℕ) (n : ℕ) : Type 0 where
+  pub before : List ℕ
+  pub after : List ℕ
+  pub written : Puts inPasses (solve plan workRoom certificateRoom) before after n

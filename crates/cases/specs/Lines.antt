@@ -1,9 +1,9 @@
 -- The lines that are written for a plan, and for what a call tells.
-use mathlib.Core.List.{List, [], _∷_, _++_}
+use mathlib.Core.List.{List, [], _∷_}
 use Prim.Native.Nat.{ℕ}
 use Rattle.model.specs.Plan.{PlanAnswer, faulty, sound}
 use Rattle.model.specs.Calls.{Result, refused, written}
-use Rattle.model.specs.Text.{decimal, lineFeed, refusedLine}
+use Rattle.model.specs.Text.{numberLine, refusedLine}
 
 -- `sound`, or the line of the refusal
 abbrev pub planLine : PlanAnswer → List ℕ
@@ -13,4 +13,4 @@ planLine (faulty n) = refusedLine n
 -- the number of bytes written, or the line of the refusal
 abbrev pub resultLine : Result → List ℕ
 resultLine (refused n) = refusedLine n
-resultLine (written n) = decimal n ++ lineFeed
+resultLine (written n) = numberLine n

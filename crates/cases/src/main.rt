@@ -3,6 +3,7 @@
 mod checks; // checks.rt: a plan and a certificate
 mod combines; // combines.rt: two plans, and an output
 mod gaps; // gaps.rt: a plan, a task and a gap, and an output
+mod passes; // passes.rt: a plan, for the number of its passes
 mod plans; // plans.rt: a plan
 mod results; // results.rt: what a call tells and leaves
 mod solves; // solves.rt: a plan and the head of its certificate
@@ -21,6 +22,8 @@ const SOLVE: u8 = 4;
 const GAP: u8 = 5;
 
 const COMBINE: u8 = 6;
+
+const PASSES: u8 = 7;
 
 fn main() {
     let mut count = [0u8; 2];
@@ -48,6 +51,9 @@ fn main() {
             }
             COMBINE => {
                 combines::combine_case(file);
+            }
+            PASSES => {
+                passes::passes_case(file);
             }
             _ => {
                 io::write_all(STDOUT_FILENO, b"unknown kind\n");

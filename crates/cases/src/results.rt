@@ -1,24 +1,13 @@
 // What a call that writes bytes tells and leaves: a line, and then every byte of the output.
 ghost use mathlib.Core.Path.{_≡_};
-ghost use mathlib.Core.List.{_++_};
 ghost use Prim.Native.Nat.{_≤_};
 ghost use lib.ListN.{length};
 ghost use Rattle.io.specs.Counts.{Counts};
 ghost use Rattle.model.specs.Bytes.{Put};
-ghost use Rattle.model.specs.Text.{decimal, lineFeed};
 ghost use Rattle.refusals.specs.Told.{resultBy};
 ghost use Rattle.cases.specs.Lines.{resultLine};
 use libc::STDOUT_FILENO;
 use refusals::Answer;
-
-// Writes the line of a number.
-fn put_count(out: &mut [u8], n: usize) -> usize
-    requires { ⌜ 29 ≤ length (now out) ⌝ }
-    ensures { λ r. ⌜ Put (now (out .entry)) (now (out .exit)) 0 (decimal n ++ lineFeed) r ⌝ }
-{
-    let at = text::put_number(out, 0, n as u64);
-    text::put_bytes(out, at, b"\n")
-}
 
 // Writes the line of an answer, and gives its length.
 fn put_result(out: &mut [u8], answer: Answer) -> usize
@@ -28,7 +17,7 @@ fn put_result(out: &mut [u8], answer: Answer) -> usize
 {
     match answer {
         Answer::Refused(r) => text::put_refusal(out, r.number()),
-        Answer::Written(n) => put_count(out, n),
+        Answer::Written(n) => text::put_number_line(out, n as u64),
     }
 }
 

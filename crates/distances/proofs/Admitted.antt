@@ -1,10 +1,10 @@
 -- The edges of a label, by what is noted of its choices. Assumes nothing.
-use mathlib.Core.Path.{_≡_, sym, refl, _∙_, ap₂, subst, subst₂}
+use mathlib.Core.Path.{_≡_, sym, _∙_, ap₂, subst, subst₂}
 use mathlib.Core.Bool.{true, false}
 use mathlib.Core.List.{List}
 use Prim.Native.Nat.{ℕ, _-_, _*_}
 use native.Mathlib.Omega.{arith}
-use lib.IntN.{ℤ, pos, _+ℤ_, _-ℤ_}
+use lib.IntN.{pos, _+ℤ_, _-ℤ_}
 use Rattle.model.specs.Check.{weight}
 use Rattle.model.specs.Plan.{Plan, nextIn}
 use Rattle.theory.specs.Lightest.{Best}
@@ -20,7 +20,8 @@ use Rattle.potentials.specs.Potentials.{Numbered, gainIn}
 use Rattle.potentials.specs.Best.{Leads, Expanded, NotedBest}
 use Rattle.potentials.proofs.Best.{outcome-best, best-outcome, no-outcome}
 use Rattle.links.specs.Links.{stateIn}
-use Rattle.distances.specs.Distances.{Sought, Reached, weightOf, Offers, RelaxesAll, DoneBy, RelaxesLabel}
+use Rattle.theory.proofs.Progress.{spread-none}
+use Rattle.distances.specs.Distances.{LinkOf, Sought, Reached, weightOf, Offers, RelaxesAll, DoneBy, RelaxesLabel}
 use Rattle.distances.specs.declared.Outcomes.{Outcomes}
 use Rattle.distances.specs.declared.Tried.{Tried}
 use Rattle.distances.proofs.Advances.{advance-none}
@@ -33,10 +34,10 @@ leads-of s at state = record { planned = s .priced .planned; holds = s .priced .
 -- a label that is not admitted has no edges
 pub label-none : {P : Plan} {r : Rules} {next m : List ℕ} {prices : Prices} {u : ℕ} {node : Node} {l to : ℕ} → Sought P r next m prices →
     Leads P r next m (prices .n) u node l to → to ≡ 0 → RelaxesLabel P prices u l m m (record { moved = false; steps = 0 })
-label-none s leads none = record {
+label-none {P} {prices = prices} s leads none = record {
   advance = advance-none (s .search);
   done = λ e v w h k. absurd (no-outcome leads none (k .best));
-  source = λ e. refl;
+  spread = λ e. spread-none (LinkOf P prices);
 }
 
 module _ {P : Plan} {r : Rules} {next m : List ℕ} {prices : Prices} {u : ℕ} {node : Node} {l to : ℕ} {before notes : List ℕ} {d : Noted}
@@ -76,7 +77,7 @@ module _ {P : Plan} {r : Rules} {next m : List ℕ} {prices : Prices} {u : ℕ} 
 
   -- every edge of the label is one of them
   pub label-done : {m′ : List ℕ} {tried : Tried} → RelaxesAll P prices out notes m m′ tried → RelaxesLabel P prices u l m m′ tried
-  label-done {m′} {tried} a = record { advance = a .advance; done = done; source = a .source }
+  label-done {m′} {tried} a = record { advance = a .advance; done = done; spread = a .spread }
     where
       done : tried .steps ≡ 0 → DoneBy P prices m′ u l
       done none v w h link =
@@ -85,4 +86,4 @@ module _ {P : Plan} {r : Rules} {next m : List ℕ} {prices : Prices} {u : ℕ} 
           let same = best-same P (subst (λ (x : ℕ). Best P u l x (b .edge)) (k .2) (b .best)) (link .best) in
           let weighs : weightOf prices (d .done .gain) notes (d .count) (k .0) ≡ w =
           sym (noted-weight b) ∙ ap₂ (λ (x y : ℕ). pos (prices .q * x) -ℤ pos (prices .p * y)) (same .0) (same .1) ∙ link .weighs in
-          subst₂ (λ (x : ℕ) z. Reached m′ x z) (k .2) (ap₂ (λ y z. y +ℤ z) (sym (a .source none)) weighs) (a .reached none (k .0) (k .1))
+          subst₂ (λ (x : ℕ) z. Reached m′ x z) (k .2) (ap₂ (λ y z. y +ℤ z) (sym (a .spread none .source)) weighs) (a .reached none (k .0) (k .1))

@@ -5,6 +5,7 @@ pub mod Targets
 pub mod Tries
 pub mod Admitted
 pub mod Marks
+pub mod Taken
 pub mod Labels
 pub mod Nodes
 pub mod Passes

@@ -8,9 +8,11 @@ use native.Mathlib.Omega.{arith}
 use lib.Dec.{eqb, ltb}
 use lib.IntN.{ℤ}
 use Rattle.model.specs.Limits.{maxNodes}
-use Rattle.theory.specs.Search.{Search}
+use Rattle.model.specs.Passes.{beginning}
+use Rattle.theory.specs.Search.{distancesOf, Search}
 use Rattle.theory.proofs.Search as search
 use Rattle.theory.proofs.Search.{Alike, search-start}
+use Rattle.theory.proofs.Searched.{told-start}
 use Rattle.theory.proofs.Upward.{changed-at, changed-off}
 use Rattle.links.specs.declared.Link.{Link}
 use Rattle.links.specs.Links.{linkIn, unknown, waiting, tried, stateIn, marked, Puts, noLink, startLink, Begins}
@@ -63,16 +65,29 @@ module _ {m m′ : List ℕ} {u : ℕ} (puts : Puts u (marked tried (linkIn m u)
       label = λ x h. same x h .4;
     }
 
--- the start node alone is known: the search starts
-pub begin-search : (Between : ℕ → ℕ → ℕ → ℤ → Type 0) {n : ℕ} (c : ℕ) {m m′ : List ℕ} → n ≤ maxNodes → Begins m m′ → Search Between n c (stateIn m′)
-begin-search Between {n} c {m} {m′} few b =
-    let e = b .links 0 (omega arith) in
-    search-start Between n c (stateIn m′)
-    (ap (λ (l : Link). ltb unknown (l .mark)) e) (ap (λ (l : Link). eqb (l .mark) waiting) e) (ap (λ (l : Link). l .distance) e)
-    (λ v h k. by v h k (ℕ-discrete v 0))
-  where
-    by : (v : ℕ) → v < n → stateIn m′ .known v ≡ true → Dec (v ≡ 0) → v ≡ 0
-    by v h k (yes p) = p
-    by v h k (no q) =
-        let e = b .links v (omega arith) ∙ changed-off (λ x. noLink) 0 startLink v q in
-        absurd (true≢false (sym k ∙ ap (λ (l : Link). ltb unknown (l .mark)) e))
+-- ---- the start
+
+module _ {n : ℕ} {m m′ : List ℕ} (few : n ≤ maxNodes) (b : Begins m m′) where
+  first : linkIn m′ 0 ≡ startLink
+  first = b .links 0 (omega arith)
+
+  -- the start node alone is known
+  alone : (v : ℕ) → v < n → stateIn m′ .known v ≡ true → v ≡ 0
+  alone v h k = by (ℕ-discrete v 0)
+    where
+      by : Dec (v ≡ 0) → v ≡ 0
+      by (yes p) = p
+      by (no q) =
+          let e = b .links v (omega arith) ∙ changed-off (λ x. noLink) 0 startLink v q in
+          absurd (true≢false (sym k ∙ ap (λ (l : Link). ltb unknown (l .mark)) e))
+
+  -- the search starts
+  pub begin-search : (Between : ℕ → ℕ → ℕ → ℤ → Type 0) (c : ℕ) → Search Between n c (stateIn m′)
+  begin-search Between c =
+      search-start Between n c (stateIn m′)
+      (ap (λ (l : Link). ltb unknown (l .mark)) first) (ap (λ (l : Link). eqb (l .mark) waiting) first) (ap (λ (l : Link). l .distance) first) alone
+
+  -- "from 0 at the start node, the others unknown"
+  pub begin-found : 0 < n → distancesOf n (stateIn m′) ≡ beginning n
+  begin-found positive =
+      told-start n (stateIn m′) positive (ap (λ (l : Link). ltb unknown (l .mark)) first) (ap (λ (l : Link). l .distance) first) alone

@@ -18,8 +18,8 @@ use Rattle.theory.specs.Search as search
 use Rattle.theory.specs.Search.{changed, trail}
 use Rattle.theory.proofs.Upward.{upward-way}
 use Rattle.theory.proofs.Tree.{length-trail, trail-below}
-use Rattle.theory.proofs.Search.{relaxed, Alike, Relaxable, relax-from, search-cycle}
-use Rattle.theory.proofs.Progress.{progress-none, progress-relax, progress-alike}
+use Rattle.theory.proofs.Search.{relaxed, Alike, Relaxable, search-cycle}
+use Rattle.theory.proofs.Progress.{progress-none, progress-relax, progress-alike, spread-none, spread-relax, spread-alike}
 use Rattle.theory.proofs.Circuits.{circuit-of}
 use Rattle.distances.specs.declared.Prices.{Prices}
 use Rattle.links.specs.Links.{linksAt, linksSize, stepsSize, linkIn, unknown, waiting, takenIn, stateIn, takenOf, firstSteps, Puts, Climbs, WayUp, Closes}
@@ -91,7 +91,7 @@ module _ {P : Plan} {prices : Prices} {m : List ℕ} {u l v : ℕ} {z : ℤ} (o 
       only = only-refl;
     };
     reached = λ h. not-shorter (linkIn m v) z e;
-    source = λ h. refl;
+    spread = λ h. spread-none (LinkOf P prices);
   }
 
   module _ (less : shorter (linkIn m v) z ≡ true) where
@@ -146,7 +146,7 @@ module _ {P : Plan} {prices : Prices} {m : List ℕ} {u l v : ℕ} {z : ℤ} (o 
           only = only-wider (puts .only) linksAt (linksSize + stepsSize) (omega arith) (omega arith);
         };
         reached = λ h. (ap (λ k. ltb unknown (k .mark)) at-v, subst (λ k. k .distance ≤ℤ z) (sym at-v) (≤ℤ-refl z));
-        source = λ h. sym (alike .dist u (o .from)) ∙ relax-from (LinkOf P prices) can;
+        spread = λ h. spread-alike (LinkOf P prices) (o .from) (spread-relax (LinkOf P prices) can) alike;
       }
 
     -- v stands above u: the way down and the edge are a circuit
@@ -179,5 +179,5 @@ module _ {P : Plan} {prices : Prices} {m : List ℕ} {u l v : ℕ} {z : ℤ} (o 
               only = only-wider (closes .only) linksAt (linksSize + stepsSize) (omega arith) (omega arith);
             };
             reached = λ h. absurd (omega (arith, h));
-            source = λ h. absurd (omega (arith, h));
+            spread = λ h. absurd (omega (arith, h));
           }

@@ -1,5 +1,5 @@
 -- The noted outcomes of a label, tried one after another. Assumes nothing.
-use mathlib.Core.Path.{_≡_, refl, sym, _∙_, ap, subst}
+use mathlib.Core.Path.{_≡_, refl, sym, ap, subst}
 use mathlib.Core.Bool.{Bool, false, _||_}
 use mathlib.Core.List.{List}
 use Prim.Native.Nat.{ℕ, _+_, _<_, _≤_}
@@ -14,8 +14,9 @@ use Rattle.discovery.specs.Discovery.{rowOf}
 use Rattle.distances.specs.declared.Prices.{Prices}
 use Rattle.potentials.specs.Potentials.{withPattern}
 use Rattle.model.specs.Bytes.{Only}
-use Rattle.links.specs.Links.{linksAt, linksSize, stepsSize, stateIn}
-use Rattle.distances.specs.Distances.{LinkOf, Advance, Reached, weightOf, targetOf, distanceBy, Offers, RelaxesOne, RelaxesAll}
+use Rattle.links.specs.Links.{linksAt, linksSize, stepsSize}
+use Rattle.theory.proofs.Progress.{spread-none, spread-then}
+use Rattle.distances.specs.Distances.{LinkOf, SpreadIn, Advance, Reached, weightOf, targetOf, distanceBy, Offers, RelaxesOne, RelaxesAll}
 use Rattle.distances.specs.declared.Outcomes.{Outcomes}
 use Rattle.distances.specs.declared.Tried.{Tried}
 use Rattle.distances.proofs.Rows.{rows-kept, index-kept, distinct-kept}
@@ -26,7 +27,7 @@ pub record Trying (P : Plan) (prices : Prices) (out : Outcomes) (notes before m 
   pub offers : Offers P prices m notes out
   pub advance : Advance P prices before m (record { moved = moved; steps = 0 })
   pub reached : (j : ℕ) → j < k → Reached m (targetOf prices before notes out j) (distanceBy prices before notes out j)
-  pub source : stateIn m .dist (out .number) ≡ stateIn before .dist (out .number)
+  pub spread : SpreadIn P prices before m (out .number)
 
 -- the same node, where the rows are the same
 target-kept : (prices : Prices) (out : Outcomes) (notes : List ℕ) {m m′ : List ℕ} → prices .n ≤ maxRows → Only linksAt (linksSize + stepsSize) m m′ → (j : ℕ) →
@@ -62,7 +63,7 @@ module _ {P : Plan} {prices : Prices} {out : Outcomes} {notes : List ℕ} where
     offers = o;
     advance = advance-none (o .search);
     reached = λ j h. absurd (omega arith);
-    source = refl;
+    spread = spread-none (LinkOf P prices);
   }
 
   module _ {before m m′ : List ℕ} {moved : Bool} {k : ℕ} {t : Tried} (s : Trying P prices out notes before m moved k) (h : k < out .count)
@@ -77,7 +78,7 @@ module _ {P : Plan} {prices : Prices} {out : Outcomes} {notes : List ℕ} where
       offers = offers-after (s .offers) (r .advance) none;
       advance = advance-then (s .advance) refl (r .advance) none;
       reached = λ j below. by j below (decLt j k);
-      source = r .source none ∙ s .source;
+      spread = spread-then (LinkOf P prices) (s .spread) (r .spread none);
     }
       where
         by : (j : ℕ) → j < k + 1 → Dec (j < k) → Reached m′ (targetOf prices before notes out j) (distanceBy prices before notes out j)
@@ -90,17 +91,17 @@ module _ {P : Plan} {prices : Prices} {out : Outcomes} {notes : List ℕ} where
             let e : j ≡ k = omega arith in
             subst (λ (i : ℕ). Reached m′ (targetOf prices before notes out i) (distanceBy prices before notes out i)) (sym e)
             (subst (λ (x : ℕ). Reached m′ x (distanceBy prices before notes out k)) (same-target k)
-            (subst (λ z. Reached m′ (targetOf prices m notes out k) (z +ℤ weightOf prices (out .kept) notes (out .count) k)) (s .source) (r .reached none)))
+            (subst (λ z. Reached m′ (targetOf prices m notes out k) (z +ℤ weightOf prices (out .kept) notes (out .count) k)) (s .spread .source) (r .reached none)))
 
     -- or it closes a circuit
     pub trying-stops : 0 < t .steps → RelaxesAll P prices out notes before m′ t
     trying-stops found = record {
       advance = advance-circuit (s .advance) refl (r .advance) found;
       reached = λ e. absurd (omega arith);
-      source = λ e. absurd (omega arith);
+      spread = λ e. absurd (omega arith);
     }
 
   -- all are tried
   pub trying-all : {before m : List ℕ} {moved : Bool} {k : ℕ} → Trying P prices out notes before m moved k → out .count ≤ k →
       RelaxesAll P prices out notes before m (record { moved = moved; steps = 0 })
-  trying-all s h = record { advance = s .advance; reached = λ e j l. s .reached j (omega arith); source = λ e. s .source }
+  trying-all s h = record { advance = s .advance; reached = λ e j l. s .reached j (omega arith); spread = λ e. s .spread }

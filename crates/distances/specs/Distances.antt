@@ -8,8 +8,9 @@ use lib.ListN.{length}
 use lib.Signed.{_≤ℤ_}
 use Rattle.model.specs.Check.{fractionOk}
 use Rattle.model.specs.Limits.{maxNodes, maxP, maxQ}
+use Rattle.model.specs.Passes.{Distances, beginning, relaxNode, pass, PassesTo}
 use Rattle.model.specs.Plan.{Plan}
-use Rattle.theory.specs.Search.{Search, Quiet, Progress, Within}
+use Rattle.theory.specs.Search.{distancesOf, Search, Quiet, Progress, Within, Spread}
 use Rattle.theory.specs.Lightest.{Lightest, maxWeight, Circuit}
 use Rattle.policy.specs.View.{cellCount, tasksIn}
 use Rattle.policy.specs.declared.Rules.{Rules}
@@ -24,6 +25,7 @@ use Rattle.potentials.specs.Best.{placeOf}
 use Rattle.model.specs.Bytes.{Only}
 use Rattle.links.specs.Links.{linksAt, linksSize, stepsSize, linksEnd, takenIn, stateIn, firstSteps}
 use Rattle.distances.specs.declared.Outcomes.{Outcomes}
+use Rattle.distances.specs.declared.Settled.{Settled}
 use Rattle.distances.specs.declared.Tried.{Tried}
 
 -- a sound plan with its nodes in the store, and a fraction
@@ -40,6 +42,18 @@ pub record Pricing (r : Rules) (next m : List ℕ) (prices : Prices) : Type 0 wh
 -- the links at the fraction of a prices
 abbrev pub LinkOf : Plan → Prices → ℕ → ℕ → ℕ → ℤ → Type 0
 LinkOf P prices = Lightest P (prices .p) (prices .q)
+
+-- the distances that are found, in memory
+abbrev pub knownDistances : Prices → List ℕ → Distances
+knownDistances prices m = distancesOf (prices .n) (stateIn m)
+
+-- the passes at the fraction of a prices
+abbrev pub PassesAt : Plan → Prices → Distances → Distances → ℕ → Type 0
+PassesAt P prices = PassesTo P (prices .p) (prices .q)
+
+-- what trying links of u leaves of the distances, in memory
+abbrev pub SpreadIn : Plan → Prices → List ℕ → List ℕ → ℕ → Type 0
+SpreadIn P prices before after u = Spread (LinkOf P prices) (prices .n) (stateIn before) (stateIn after) u
 
 -- what holds between the turns, in memory
 abbrev pub SearchIn : Plan → Prices → List ℕ → Type 0
@@ -96,11 +110,11 @@ pub record Offered (m : List ℕ) (u l v : ℕ) (z : ℤ) : Type 0 where
   pub prices : Prices
   pub offer : Offer plan prices m u l v z
 
--- the search has come further, and then v is reached at z, and u stands where it did
+-- the search has come further, and then v is reached at z, and every node stands where it did or where a link of u leads it
 pub record Relaxes (P : Plan) (prices : Prices) (u v : ℕ) (z : ℤ) (before after : List ℕ) (t : Tried) : Type 0 where
   pub advance : Advance P prices before after t
   pub reached : t .steps ≡ 0 → Reached after v z
-  pub source : t .steps ≡ 0 → stateIn after .dist u ≡ stateIn before .dist u
+  pub spread : t .steps ≡ 0 → SpreadIn P prices before after u
 
 -- ---- the edges of a label
 
@@ -146,40 +160,43 @@ abbrev pub RelaxesOne : Plan → Prices → Outcomes → ℕ → List ℕ → Li
 RelaxesOne P prices out k notes before after t =
     Relaxes P prices (out .number) (targetOf prices before notes out k) (distanceBy prices before notes out k) before after t
 
--- the search has come further, and then each of the patterns' nodes is reached, and the node that the label leaves stands where it did
+-- the search has come further, and then each of the patterns' nodes is reached, and every node stands where it did or where a link leads it
 pub record RelaxesAll (P : Plan) (prices : Prices) (out : Outcomes) (notes before after : List ℕ) (t : Tried) : Type 0 where
   pub advance : Advance P prices before after t
   pub reached : t .steps ≡ 0 → (k : ℕ) → k < out .count →
       Reached after (targetOf prices before notes out k) (distanceBy prices before notes out k)
-  pub source : t .steps ≡ 0 → stateIn after .dist (out .number) ≡ stateIn before .dist (out .number)
+  pub spread : t .steps ≡ 0 → SpreadIn P prices before after (out .number)
 
 -- every node that the label l leads to from u is reached
 abbrev pub DoneBy : Plan → Prices → List ℕ → ℕ → ℕ → Type 0
 DoneBy P prices m u l = (v : ℕ) (w : ℤ) → v < prices .n → LinkOf P prices u l v w → Reached m v (stateIn m .dist u +ℤ w)
 
--- the search has come further, and then the label is done, and u stands where it did
+-- the search has come further, and then the label is done, and every node stands where it did or where a link of u leads it
 pub record RelaxesLabel (P : Plan) (prices : Prices) (u l : ℕ) (before after : List ℕ) (t : Tried) : Type 0 where
   pub advance : Advance P prices before after t
   pub done : t .steps ≡ 0 → DoneBy P prices after u l
-  pub source : t .steps ≡ 0 → stateIn after .dist u ≡ stateIn before .dist u
+  pub spread : t .steps ≡ 0 → SpreadIn P prices before after u
 
 -- ---- nodes
 
--- the search has come further, and then u, without a move, no longer waits
+-- the search has come further, and then all edges of u are taken, and u, without a move, no longer waits
 pub record RelaxesNode (P : Plan) (prices : Prices) (u : ℕ) (before after : List ℕ) (t : Tried) : Type 0 where
   pub advance : Advance P prices before after t
+  pub taken : t .steps ≡ 0 → relaxNode P (prices .p) (prices .q) (knownDistances prices before) u ≡ knownDistances prices after
   pub tried : t .steps ≡ 0 → t .moved ≡ false → stateIn after .waiting u ≡ false
 
--- the search has come further, and then, without a move, no node waits
+-- the search has come further, and then by one pass, and, without a move, no node waits
 pub record Passes (P : Plan) (prices : Prices) (before after : List ℕ) (t : Tried) : Type 0 where
   pub advance : Advance P prices before after t
+  pub passed : t .steps ≡ 0 → pass P (prices .p) (prices .q) (knownDistances prices before) ≡ knownDistances prices after
   pub quiet : t .steps ≡ 0 → t .moved ≡ false → Quiet (prices .n) (stateIn after)
 
 -- ---- the whole search
 
--- a circuit of k steps; or, for k = 0, a search at rest, and every byte of no link is as it was
-pub record Settles (P : Plan) (prices : Prices) (before after : List ℕ) (k : ℕ) : Type 0 where
-  pub search : k ≡ 0 → SearchIn P prices after × Quiet (prices .n) (stateIn after)
-  pub links : k ≡ 0 → Only linksAt linksSize before after
-  pub circuit : 0 < k → Turned P prices after k
+-- a circuit; or, without steps, a search at rest after this number of passes, and every byte of no link is as it was
+pub record Settles (P : Plan) (prices : Prices) (before after : List ℕ) (r : Settled) : Type 0 where
+  pub search : r .steps ≡ 0 → SearchIn P prices after × Quiet (prices .n) (stateIn after)
+  pub passes : r .steps ≡ 0 → PassesAt P prices (beginning (prices .n)) (knownDistances prices after) (r .passes)
+  pub links : r .steps ≡ 0 → Only linksAt linksSize before after
+  pub circuit : 0 < r .steps → Turned P prices after (r .steps)
   pub only : Only linksAt (linksSize + stepsSize) before after

@@ -31,6 +31,12 @@ pub struct Tried {
     pub steps: usize,
 }
 
+// What the passes came to: the steps of a cycle that was found, 0 for none, and the number of passes, the last included.
+pub struct Settled {
+    pub steps: usize,
+    pub passes: usize,
+}
+
 // Where a label leads from a numbered node: so many noted patterns, each with the policy's cells and gain and the automaton's state.
 struct Outcomes {
     number: usize,
@@ -232,25 +238,27 @@ fn pass(
     Tried { moved, steps: 0 }
 }
 
-// Finds the distances of all nodes, and gives 0; or the number of steps of a cycle that costs less than 0.
+// Finds the distances of all nodes, and gives the number of passes; or a cycle that costs less than 0.
 pub fn settle(
     prices: Prices,
     next: &[u8; plan::PAIRS],
     rules: Rules,
     notes: &mut [u8],
     m: &mut [u8],
-) -> usize
+) -> Settled
     requires { ⌜ Ruled rules × Pricing rules (now next) (now m) prices × (noteRoom ≤ length (now notes)) ⌝ }
-    ensures { λ k. ⌜ ((P : Plan) → Priced P rules (now (next .entry)) (now (m .entry)) prices → Settles P prices (now (m .entry)) (now (m .exit)) k) ⌝ }
+    ensures { λ r. ⌜ ((P : Plan) → Priced P rules (now (next .entry)) (now (m .entry)) prices → Settles P prices (now (m .entry)) (now (m .exit)) r) ⌝ }
     ensures { λ _. ⌜ NotesFree (now (notes .entry)) (now (notes .exit)) ⌝ }
 {
     links::begin(m);
     let mut moved = true;
     let mut steps = 0;
+    let mut passes = 0;
     while moved {
         let tried = pass(prices, next, rules, notes, m);
         moved = tried.moved;
         steps = tried.steps;
+        passes += 1;
     }
-    steps
+    Settled { steps, passes }
 }

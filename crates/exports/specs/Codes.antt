@@ -33,12 +33,18 @@ numbersAfter (CheckAnswer.share p q n k) before = p ∷ q ∷ n ∷ k ∷ []
 -- the bytes written, or 65,536 and the number of the refusal
 abbrev pub solveCode : solver.Answer → ℕ
 solveCode (solved.Refused r) = 65536 + refusalNumber r
-solveCode (solved.Written n) = n
+solveCode (solved.Written n k) = n
 
--- the number of an answer that keeps the solver's promise
-pub record SolvesAs (plan work work′ out out′ : List ℕ) (r : ℕ) : Type 0 where
+-- the number of passes, or what was there
+abbrev pub passesAfter : solver.Answer → List ℕ → List ℕ
+passesAfter (solved.Refused r) before = before
+passesAfter (solved.Written n k) before = k ∷ []
+
+-- the numbers of an answer that keeps the solver's promise
+pub record SolvesAs (plan work work′ out out′ passes passes′ : List ℕ) (r : ℕ) : Type 0 where
   pub answer : solver.Answer
   pub code : r ≡ solveCode answer
+  pub told : passes′ ≡ passesAfter answer passes
   pub solves : Solves plan work work′ out out′ answer
 
 -- the call does what is due: the number that it answers, and what the output then holds

@@ -50,15 +50,27 @@ pub extern "C" fn jovnetal_check(
     }
 }
 
-// The solve call: the number of bytes written, or 65,536 and the number of the refusal.
+// The solve call: the number of bytes written and, beside them, the number of passes for their fraction; or 65,536 and the number of the
+// refusal, and the passes as they were.
 #[no_mangle]
-pub extern "C" fn jovnetal_solve(plan: &[u8], work: &mut [u8], out: &mut [u8]) -> u64
-    ensures { λ r. ⌜ SolvesAs (now (plan .entry)) (now (work .entry)) (now (work .exit)) (now (out .entry)) (now (out .exit)) r ⌝ }
+pub extern "C" fn jovnetal_solve(
+    plan: &[u8],
+    work: &mut [u8],
+    out: &mut [u8],
+    passes: &mut [u64; 1],
+) -> u64
+    ensures { λ r. ⌜ SolvesAs (now (plan .entry)) (now (work .entry)) (now (work .exit)) (now (out .entry)) (now (out .exit)) (now (passes .entry)) (now (passes .exit)) r ⌝ }
 {
     let answer = solver::solve(plan, work, out);
     match answer {
         solver::Answer::Refused(r) => 65536 + r.number(),
-        solver::Answer::Written(n) => n as u64,
+        solver::Answer::Written {
+            bytes: n,
+            passes: k,
+        } => {
+            *passes = [k as u64];
+            n as u64
+        }
     }
 }
 

@@ -1,19 +1,22 @@
--- The marked cases of document 01: one table, and one theorem that the definitions give every line of it.
+-- The marked cases of document 01: one table, and one theorem that the definitions give every line of it. Beside it, since passes are a
+-- relation and no function, those of the request about passes.
 use mathlib.Core.Path.{_≡_, refl}
 use Prim.Native.Nat.{ℕ}
 use mathlib.Core.List.{List, [], _∷_, _++_, map}
 use mathlib.Core.Option.{Option, none, some}
 use lib.IntN.{ℤ, pos, negsuc}
+use lib.ListN.{length}
 use Rattle.model.specs.Limits.{workRoom, traceRoom}
 use Rattle.model.specs.Lists.{flatMap, upFrom}
 use Rattle.model.specs.Discovery.{found}
 use Rattle.model.specs.Bytes.{number, signed}
-use Rattle.model.specs.Plan.{readPlan, readFrom, firstFault, fault, after, width, mayFollow, inRange, taskInRange, arcInRange}
+use Rattle.model.specs.Plan.{Plan, sound, readPlan, readFrom, firstFault, fault, after, width, mayFollow, inRange, taskInRange, arcInRange}
 use Rattle.model.specs.Slot.{Done, slot, ready, first, key}
 use Rattle.model.specs.Masks.{masksOf}
 use Rattle.model.specs.Graph.{choices, edgeOf, edgesAt, edges, nodes, tooLarge}
 use Rattle.model.specs.Certificate.{Certificate, readCertificate, readPotentials, readSteps}
 use Rattle.model.specs.Check.{CheckAnswer, check, verdict, fractionOk, gcd, potentialsOk, cycleOk, follow, allowance, thousandths}
+use Rattle.model.specs.Passes.{beginning, relaxNode, pass, PassesTo, last, more}
 use Rattle.model.specs.Calls.{Writing, refuses, writes}
 use Rattle.model.specs.Trace.{trace, traceRun}
 
@@ -112,3 +115,35 @@ cases =
 pub marked : map (λ c. outcome (c .input)) cases ≡ map (λ c. c .output) cases
 unfolding number signed readPlan readFrom firstFault fault after width mayFollow inRange taskInRange arcInRange slot ready first key masksOf choices edgeOf edgesAt edges found nodes tooLarge readCertificate readPotentials readSteps check verdict fractionOk gcd potentialsOk cycleOk follow allowance thousandths trace traceRun
 marked = refl
+
+-- ---- the passes of A, B and C
+
+-- the plans
+abbrev pub readA : Plan
+readA = record { tasks = record { work = 1; window = 1; value = 1 } ∷ []; policy = 1; states = 1; arcs = map (λ l. record { from = 0; label = l; to = 0 }) (upFrom 0 2) }
+
+abbrev pub readB : Plan
+readB = record { tasks = record { work = 1; window = 1; value = 1 } ∷ record { work = 2; window = 2; value = 3 } ∷ []; policy = 1; states = 1; arcs = map (λ l. record { from = 0; label = l; to = 0 }) (upFrom 0 4) }
+
+abbrev pub readC : Plan
+readC = record { tasks = record { work = 1; window = 1; value = 1 } ∷ []; policy = 1; states = 2; arcs = record { from = 0; label = 1; to = 1 } ∷ record { from = 1; label = 0; to = 1 } ∷ [] }
+
+-- plan bytes are read as P, and the passes at p/q find these potentials
+pub record PassesFor (plan : List ℕ) (P : Plan) (p q : ℕ) (zs : List ℤ) (k : ℕ) : Type 0 where
+  pub read : readPlan plan ≡ sound P
+  pub passes : PassesTo P p q (beginning (length (nodes P))) (map some zs) k
+
+-- "1 in case A, 2 in case C", and 2 in case B
+pub passes-A : PassesFor planA readA 1 1 (pos 0 ∷ []) 1
+unfolding number readPlan readFrom firstFault fault after width mayFollow inRange taskInRange arcInRange slot ready first key masksOf choices edgeOf edgesAt edges found nodes relaxNode pass
+passes-A = record { read = refl; passes = last refl }
+
+pub passes-B : PassesFor planB readB 1 3 (pos 0 ∷ pos 0 ∷ negsuc 2 ∷ pos 0 ∷ pos 0 ∷ []) 2
+unfolding number readPlan readFrom firstFault fault after width mayFollow inRange taskInRange arcInRange slot ready first key masksOf choices edgeOf edgesAt edges found nodes relaxNode pass
+passes-B =
+    let end = map some (pos 0 ∷ pos 0 ∷ negsuc 2 ∷ pos 0 ∷ pos 0 ∷ []) in
+    record { read = refl; passes = more {ds = beginning 5} {es = end} refl (last {ds = end} refl) }
+
+pub passes-C : PassesFor planC readC 1 0 (pos 0 ∷ negsuc 0 ∷ []) 2
+unfolding number readPlan readFrom firstFault fault after width mayFollow inRange taskInRange arcInRange slot ready first key masksOf choices edgeOf edgesAt edges found nodes relaxNode pass
+passes-C = record { read = refl; passes = more refl (last refl) }

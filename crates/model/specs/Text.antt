@@ -30,6 +30,10 @@ field n = decimal n ++ space
 abbrev pub lineFeed : List ℕ
 lineFeed = 10 ∷ []
 
+-- a number alone on its line
+abbrev pub numberLine : ℕ → List ℕ
+numberLine n = decimal n ++ lineFeed
+
 -- "A refusal is the single line `refused n`."
 unfoldable pub refusedLine : ℕ → List ℕ
 refusedLine n = (114 ∷ 101 ∷ 102 ∷ 117 ∷ 115 ∷ 101 ∷ 100 ∷ 32 ∷ []) ++ decimal n ++ lineFeed

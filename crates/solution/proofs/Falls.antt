@@ -95,7 +95,8 @@ pub record Aimed (P : Plan) (r : Rules) (next m : List ℕ) (n : ℕ) (s : Solut
 module _ {P : Plan} {r : Rules} {next : List ℕ} {n : ℕ} where
   -- after a search
   pub aimed-after : {m m′ : List ℕ} {s : Solution} {found : ℕ} → Planned P r next → Holds P (tasksIn r) m n → fractionOk (s .p) (s .q) ≡ true →
-      (0 < s .q → Tight P n m (s .p) (s .q) (s .steps)) → (s .q ≡ 0 → s .steps ≡ 0) → Settles P (pricesOf s n) m m′ found → Aimed P r next m′ n s found
+      (0 < s .q → Tight P n m (s .p) (s .q) (s .steps)) → (s .q ≡ 0 → s .steps ≡ 0) → Settles P (pricesOf s n) m m′ (record { steps = found; passes = s .passes }) →
+      Aimed P r next m′ n s found
   aimed-after planned holds ok tight bare t = record {
     planned = planned;
     holds = holds-kept (t .only) holds;
@@ -106,6 +107,7 @@ module _ {P : Plan} {r : Rules} {next : List ℕ} {n : ℕ} where
       fraction = ok;
       search = t .search e .0;
       quiet = t .search e .1;
+      passed = t .passes e;
       cycle = λ h. tight-kept (t .links e) (tight h);
       bare = bare;
     };

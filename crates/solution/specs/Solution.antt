@@ -5,6 +5,7 @@ use mathlib.Core.List.{List}
 use Prim.Native.Nat.{ℕ, _*_, _<_, _≤_}
 use Rattle.model.specs.Check.{fractionOk}
 use Rattle.model.specs.Graph.{Edge}
+use Rattle.model.specs.Passes.{beginning}
 use Rattle.model.specs.Plan.{Plan}
 use Rattle.model.specs.Walk.{kept, ideal}
 use Rattle.theory.specs.Search.{Quiet}
@@ -15,7 +16,7 @@ use Rattle.graph.specs.View.{Planned}
 use Rattle.discovery.specs.Discovery.{Holds}
 use Rattle.distances.specs.declared.Prices.{Prices}
 use Rattle.links.specs.Links.{takenIn, stateIn, firstSteps}
-use Rattle.distances.specs.Distances.{SearchIn, Turned}
+use Rattle.distances.specs.Distances.{knownDistances, PassesAt, SearchIn, Turned}
 use Rattle.circuit.specs.declared.Fraction.{Fraction}
 use Rattle.solution.specs.declared.Solution.{Solution}
 
@@ -54,13 +55,14 @@ pub record Lowers (P : Plan) (prices : Prices) (m : List ℕ) (k : ℕ) (f : Fra
   pub less : prices .q * f .p < prices .p * f .q
   pub tight : Tight P (prices .n) m (f .p) (f .q) k
 
--- n rows hold the plan's nodes, the search at this fraction is at rest, and for q > 0 such a cycle stands in the steps, for 1/0 none
+-- n rows hold the plan's nodes, the search at this fraction is at rest after these passes, and for q > 0 such a cycle stands in the steps, for 1/0 none
 pub record Solving (P : Plan) (r : Rules) (next m : List ℕ) (n : ℕ) (s : Solution) : Type 0 where
   pub planned : Planned P r next
   pub holds : Holds P (tasksIn r) m n
   pub fraction : fractionOk (s .p) (s .q) ≡ true
   pub search : SearchIn P (pricesOf s n) m
   pub quiet : Quiet n (stateIn m)
+  pub passed : PassesAt P (pricesOf s n) (beginning n) (knownDistances (pricesOf s n) m) (s .passes)
   pub cycle : 0 < s .q → Tight P n m (s .p) (s .q) (s .steps)
   pub bare : s .q ≡ 0 → s .steps ≡ 0
 

@@ -14,11 +14,12 @@ ghost use Rattle.model.specs.Bytes.{Only};
 ghost use Rattle.links.specs.Links.{linksAt, linksSize, stepsSize, linksEnd};
 ghost use Rattle.solution.specs.Solution.{Circling, Circled, Lowers, Solving};
 
-// A fraction, and the steps of the cycle that attains it, 0 for 1/0.
+// A fraction, the steps of the cycle that attains it, 0 for 1/0, and the number of passes for it.
 pub struct Solution {
     pub p: u32,
     pub q: u32,
     pub steps: usize,
+    pub passes: usize,
 }
 
 // The fraction that the cycle of so many steps attains.
@@ -48,12 +49,17 @@ pub fn least(
     let mut q = 0;
     let mut steps = 0;
     let mut found = distances::settle(Prices { p, q, n }, next, rules, notes, m);
-    while found != 0 {
-        let lower = attained(rules, found, notes, m);
+    while found.steps != 0 {
+        let lower = attained(rules, found.steps, notes, m);
         p = lower.p;
         q = lower.q;
-        steps = found;
+        steps = found.steps;
         found = distances::settle(Prices { p, q, n }, next, rules, notes, m);
     }
-    Solution { p, q, steps }
+    Solution {
+        p,
+        q,
+        steps,
+        passes: found.passes,
+    }
 }

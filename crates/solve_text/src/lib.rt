@@ -9,17 +9,37 @@ ghost use Rattle.io.specs.Counts.{Counts};
 ghost use Rattle.model.specs.Bytes.{workAfter};
 ghost use Rattle.model.specs.Limits.{workRoom, certificateRoom};
 ghost use Rattle.model.specs.Solve.{solve};
-ghost use Rattle.solve_text.specs.Bytes.{Puts};
+ghost use Rattle.solve_text.specs.Bytes.{inBytes, inPasses, Puts};
 
 // Writes the certificate of a plan, or the line of its refusal, and answers the number of bytes.
 pub fn put_certificate(out: &mut [u8], plan: &[u8], work: &mut [u8]) -> usize
     requires { ⌜ certificateRoom ≤ length (now out) ⌝ }
-    ensures { λ r. ⌜ Puts (solve (now (plan .entry)) (length (now (work .entry))) (length (now (out .entry)))) (now (out .entry)) (now (out .exit)) r ⌝ }
+    ensures { λ r. ⌜ Puts inBytes (solve (now (plan .entry)) (length (now (work .entry))) (length (now (out .entry)))) (now (out .entry)) (now (out .exit)) r ⌝ }
     ensures { λ r. ⌜ Counts r (now (out .exit)) ⌝ }
     ensures { λ _. ⌜ now (work .exit) ≡ workAfter (leb workRoom (length (now (work .entry))) && leb certificateRoom (length (now (out .entry)))) (now (work .entry)) ⌝ }
 {
     match solver::solve(plan, work, out) {
         Answer::Refused(r) => text::put_refusal(out, r.number()),
-        Answer::Written(n) => n,
+        Answer::Written {
+            bytes: n,
+            passes: _,
+        } => n,
+    }
+}
+
+// Writes the line of the number of passes for a plan's fraction, or of its refusal, and answers the number of bytes.
+pub fn put_passes(out: &mut [u8], plan: &[u8]) -> usize
+    requires { ⌜ 29 ≤ length (now out) ⌝ }
+    ensures { λ r. ⌜ Puts inPasses (solve (now (plan .entry)) workRoom certificateRoom) (now (out .entry)) (now (out .exit)) r ⌝ }
+    ensures { λ r. ⌜ Counts r (now (out .exit)) ⌝ }
+{
+    let mut certificate = io::large_buffer();
+    let mut work = io::large_buffer();
+    match solver::solve(plan, &mut work, &mut certificate) {
+        Answer::Refused(f) => text::put_refusal(out, f.number()),
+        Answer::Written {
+            bytes: _,
+            passes: n,
+        } => text::put_number_line(out, n as u64),
     }
 }

@@ -23,12 +23,20 @@ use Rattle.words.proofs.Memory.{overwrite-first}
 use Rattle.solver.specs.declared.Answer.{Answer}
 use Rattle.solver.specs.declared.Answer.the-variants.{Refused, Written}
 use Rattle.refusals.specs.declared.Refusal.the-variants.{ShortMemory}
-use Rattle.solver.specs.Promise.{refusedBy, writtenBy, Writes, Does, Certifies, Solves}
+use Rattle.solver.specs.Promise.{refusedBy, Writes, Does, Certifies, Solves}
 
 -- a refusal writes nothing
-not-both : (r : Answer) {n k : ℕ} → refusedBy r ≡ some n → writtenBy r ≡ some k → ⊥
-not-both (Refused f) {k = k} e d = Option·none-ne-some k d
-not-both (Written m) {n} e d = Option·none-ne-some n e
+not-both : {r : Answer} {n bytes passes : ℕ} → refusedBy r ≡ some n → r ≡ Written bytes passes → ⊥
+not-both {n = n} e d = Option·none-ne-some n (sym (ap refusedBy d) ∙ e)
+
+-- the bytes and the passes that are told
+abbrev pub bytesOf : Answer → ℕ
+bytesOf (Refused f) = 0
+bytesOf (Written n k) = n
+
+abbrev pub passesOf : Answer → ℕ
+passesOf (Refused f) = 0
+passesOf (Written n k) = k
 
 -- ---- too many nodes, or the certificate
 
@@ -64,13 +72,13 @@ module _ (plan : List ℕ) (P : Plan) (read : readPlan plan ≡ sound P) (before
       ∙ ap (checkRead P) (w .solved .form) ∙ w .solved .accepted
       ∙ ap (λ (n : ℕ). share (c .p) (c .q) n (check-model.allowance (c .potentials))) counted
 
-  certified : Does (solvePlan (sound P)) before after r → (n : ℕ) → writtenBy r ≡ some n → Certifies plan P n after
-  certified does n e = by (tooLarge P) refl does
+  certified : Does (solvePlan (sound P)) before after r → (n passes : ℕ) → r ≡ Written n passes → Certifies plan P n after
+  certified does n passes e = by (tooLarge P) refl does
     where
       by : (b : Bool) → tooLarge P ≡ b → Does (cond b (refused tooManyNodes) (solvable P)) before after r → Certifies plan P n after
-      by true large f = absurd (not-both r (f .number) e)
+      by true large f = absurd (not-both (f .number) e)
       by false fits w =
-          let size : length (certificateBytes (w .certificate)) ≡ n = Option·some-injective _ _ (sym (w .size) ∙ e) in
+          let size : length (certificateBytes (w .certificate)) ≡ n = ap bytesOf (sym (w .answer) ∙ e) in
           let accepted : (lent : ℕ) → workRoom ≤ lent → _ = λ lent h.
           subst (λ (k : ℕ). check plan (take k after) lent ≡ share (w .certificate .p) (w .certificate .q) (length (nodes P)) (check-model.allowance (w .certificate .potentials)))
           size (accepts fits w lent h) in record {
@@ -103,7 +111,7 @@ module _ (plan work out : List ℕ) where
     due =
         subst (λ (s : SolveAnswer). Does s out out (Refused ShortMemory))
         (sym (solve-tested a b e d ∙ ap (λ (t : Bool). cond t (solvePlan (readPlan plan)) (refused shortMemory)) none-lent)) (record { number = refl; kept = refl });
-    certifies = λ P read n k. absurd (Option·none-ne-some n k);
+    certifies = λ P read n passes e. absurd (not-both {n = shortMemory} refl e);
     memory = sym (memory-tested a b e d ∙ ap (λ (t : Bool). workAfter t work) none-lent);
   }
 

@@ -18,25 +18,22 @@ use Rattle.refusals.specs.Numbers.{refusalNumber}
 use Rattle.solver.specs.declared.Answer.{Answer}
 use Rattle.solver.specs.declared.Answer.the-variants.{Refused, Written}
 
--- the number of a refusal, and the bytes that are written
+-- the number of a refusal
 abbrev pub refusedBy : Answer → Option ℕ
 refusedBy (Refused r) = some (refusalNumber r)
-refusedBy (Written n) = none
-
-abbrev pub writtenBy : Answer → Option ℕ
-writtenBy (Refused r) = none
-writtenBy (Written n) = some n
+refusedBy (Written n k) = none
 
 -- "A refusal gives its number, and the output bytes keep what they had"
 pub record Refuses (n : ℕ) (before after : List ℕ) (r : Answer) : Type 0 where
   pub number : refusedBy r ≡ some n
   pub kept : after ≡ before
 
--- a certificate of the plan is written, and no byte past its last
+-- a certificate of the plan is written, and no byte past its last, and its bytes and its passes are told
 pub record Writes (P : model.Plan) (before after : List ℕ) (r : Answer) : Type 0 where
   pub certificate : Certificate
-  pub solved : Solved P certificate
-  pub size : writtenBy r ≡ some (length (certificateBytes certificate))
+  pub passes : ℕ
+  pub solved : Solved P certificate passes
+  pub answer : r ≡ Written (length (certificateBytes certificate)) passes
   pub bytes : after ≡ overwrite before 0 (certificateBytes certificate)
 
 -- what is due is done
@@ -55,5 +52,5 @@ pub record Certifies (plan : List ℕ) (P : model.Plan) (n : ℕ) (after : List 
 -- for all plan bytes, work memory and output
 pub record Solves (plan work work′ out out′ : List ℕ) (r : Answer) : Type 0 where
   pub due : Does (solve plan (length work) (length out)) out out′ r
-  pub certifies : (P : model.Plan) → model.readPlan plan ≡ model.sound P → (n : ℕ) → writtenBy r ≡ some n → Certifies plan P n out′
+  pub certifies : (P : model.Plan) → model.readPlan plan ≡ model.sound P → (n passes : ℕ) → r ≡ Written n passes → Certifies plan P n out′
   pub memory : work′ ≡ workAfter (leb workRoom (length work) && leb certificateRoom (length out)) work

@@ -19,10 +19,10 @@ ghost use Rattle.discovery.specs.Discovery.{Holds, Held};
 ghost use Rattle.links.specs.Links.{linksAt, linksSize, stepsSize, linksEnd};
 ghost use Rattle.solver.specs.Promise.{Writes, Does, Solves};
 
-// A refusal, or so many bytes written.
+// A refusal, or so many bytes written, and the number of passes for their fraction, the last included.
 pub enum Answer {
     Refused(Refusal),
-    Written(usize),
+    Written { bytes: usize, passes: usize },
 }
 
 // The least work memory, and the most bytes of a certificate.
@@ -30,7 +30,7 @@ pub const WORK_ROOM: usize = Node::WORK_ROOM;
 
 pub const CERTIFICATE_ROOM: usize = Node::CERTIFICATE_ROOM;
 
-// The certificate of a plan whose n nodes are in the store: so many bytes are written.
+// The certificate of a plan whose n nodes are in the store: so many bytes are written, after so many passes.
 fn solve_nodes(
     next: &[u8; plan::PAIRS],
     rules: Rules,
@@ -45,7 +45,11 @@ fn solve_nodes(
     ensures { λ _. ⌜ NotesFree (now (notes .entry)) (now (notes .exit)) ⌝ }
 {
     let solution = solution::least(next, rules, n, notes, m);
-    Answer::Written(writer::write(rules, n, solution, notes, m, out))
+    let bytes = writer::write(rules, n, solution, notes, m, out);
+    Answer::Written {
+        bytes,
+        passes: solution.passes,
+    }
 }
 
 // The nodes of a sound plan, then its certificate.

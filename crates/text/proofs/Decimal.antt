@@ -10,7 +10,7 @@ use borrow.Author.Tests.{lt-ltb, le-ltb, ltb-false}
 use lib.Dec.{ltb}
 use lib.ListN.{length, length-append}
 use Rattle.io.specs.Digits.{glyph, digits, Fewest}
-use Rattle.model.specs.Text.{digitsIn, decimal, space, field, refusedLine, traceLine, lineFeed}
+use Rattle.model.specs.Text.{digitsIn, decimal, space, field, refusedLine, traceLine, lineFeed, numberLine}
 
 -- a digit's code
 digit : (d : ℕ) → d < 10 → glyph d ≡ 48 + d
@@ -69,6 +69,9 @@ pub decimal-length : (k n : ℕ) → n < 10 ^ suc k → length (decimal n) ≤ s
 unfolding decimal
 decimal-length k n h = digits-length n k n h
 
+number-line-length : (n : ℕ) → length (numberLine n) ≡ length (decimal n) + 1
+number-line-length n = length-append (decimal n) lineFeed
+
 -- the line of a refusal is a word, a space, the number and a line feed
 pub refused-length : (n : ℕ) → length (refusedLine n) ≡ length (decimal n) + 9
 unfolding refusedLine
@@ -82,6 +85,9 @@ refused-length n =
 -- it is short
 pub refused-most : (n : ℕ) → n < 2 ^ 64 → length (refusedLine n) ≤ 29
 refused-most n h = omega (arith, refused-length n, decimal-length 19 n (omega arith))
+
+pub number-most : (n : ℕ) → n < 2 ^ 64 → length (numberLine n) ≤ 21
+number-most n h = omega (arith, number-line-length n, decimal-length 19 n (omega arith))
 
 pub field-length : (n : ℕ) → length (field n) ≡ length (decimal n) + 1
 field-length n = length-append (decimal n) space

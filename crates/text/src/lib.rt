@@ -2,7 +2,7 @@
 ghost use mathlib.Core.List.{_++_};
 ghost use Prim.Native.Nat.{_+_, _≤_};
 ghost use lib.ListN.{length};
-ghost use Rattle.model.specs.Text.{decimal, field, refusedLine, traceLine};
+ghost use Rattle.model.specs.Text.{decimal, field, numberLine, refusedLine, traceLine};
 ghost use Rattle.model.specs.Bytes.{Put};
 
 // Writes some bytes at a place, and answers the place after them.
@@ -26,6 +26,23 @@ pub fn put_number(out: &mut [u8], at: usize, n: u64) -> usize
     at + k
 }
 
+// Writes n in decimal at a place and some bytes behind it, and answers the place after them.
+fn put_number_with(out: &mut [u8], at: usize, n: u64, tail: &[u8]) -> usize
+    requires { ⌜ at + length (decimal n ++ now tail) ≤ length (now out) ⌝ }
+    ensures { λ r. ⌜ Put (now (out .entry)) (now (out .exit)) at (decimal n ++ now (tail .entry)) r ⌝ }
+{
+    let number = put_number(out, at, n);
+    put_bytes(out, number, tail)
+}
+
+// Writes the line of a number, and answers its length.
+pub fn put_number_line(out: &mut [u8], n: u64) -> usize
+    requires { ⌜ length (numberLine n) ≤ length (now out) ⌝ }
+    ensures { λ r. ⌜ Put (now (out .entry)) (now (out .exit)) 0 (numberLine n) r ⌝ }
+{
+    put_number_with(out, 0, n, b"\n")
+}
+
 // Writes the line of a refusal, and answers its length.
 pub fn put_refusal(out: &mut [u8], n: u64) -> usize
     requires { ⌜ length (refusedLine n) ≤ length (now out) ⌝ }
@@ -41,8 +58,7 @@ pub fn put_field(out: &mut [u8], at: usize, n: u64) -> usize
     requires { ⌜ at + length (field n) ≤ length (now out) ⌝ }
     ensures { λ r. ⌜ Put (now (out .entry)) (now (out .exit)) at (field n) r ⌝ }
 {
-    let number = put_number(out, at, n);
-    put_bytes(out, number, b" ")
+    put_number_with(out, at, n, b" ")
 }
 
 // Writes three numbers, each and a space.

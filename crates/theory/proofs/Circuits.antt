@@ -5,12 +5,12 @@ use mathlib.Core.Bool.{Bool, true, false}
 use mathlib.Core.Logic.{⊎-elim}
 use mathlib.Core.List.{List, [], _∷_, List·Memᴰ, List·Memᴰ·head, List·Memᴰ·tail, List·Memᴰ·cases-cons, List·Memᴰ·eq-of-singleton, Memᴰ·cast}
 use Prim.Native.Nat.{ℕ, suc, _*_, _<_, _≤_}
-use native.Mathlib.Nat.{mul-zero, mul-le-mul, lt-of-mul-lt-mul-left}
+use native.Mathlib.Nat.{mul-zero, mul-le-mul, mul-le-mul-left, lt-of-mul-lt-mul-left}
 use native.Mathlib.Decide.{decLe}
 use native.Mathlib.Omega.{arith}
 use lib.IntN.{ℤ, pos, _+ℤ_}
 use lib.ListN.{length}
-use lib.Signed.{_≤ℤ_, _<ℤ_}
+use lib.Signed.{_≤ℤ_, _<ℤ_, ≤ℤ-refl}
 use Rattle.model.specs.Limits.{maxNodes, maxP, maxQ}
 use Rattle.model.specs.Lists.{keep}
 use Rattle.model.specs.Plan.{Plan}
@@ -18,15 +18,16 @@ use Rattle.model.specs.Slot.{slot}
 use Rattle.model.specs.Discovery.{numberIn}
 use Rattle.model.specs.Graph.{Node, Edge, start, sameNode, edgeOf, edgesAt, edges, nodes, tooLarge}
 use Rattle.model.specs.Walk.{Walk, here, go, kept, ideal}
-use Rattle.model.specs.Check.{fractionOk}
+use Rattle.model.specs.Check.{weight, fractionOk}
 use Rattle.model.specs.Solve.{cost}
 use Rattle.model.proofs.Lists.{mem-getD, mem-keep, mem-of-keep}
-use Rattle.theory.specs.Search.{Taken, Path, here, go, Within}
+use Rattle.words.proofs.Signed.{≤ℤ-trans, +ℤ-mono}
+use Rattle.theory.specs.Search.{Taken, State, Path, here, go, Within, Done}
 use Rattle.theory.specs.Lightest.{nodeAt, Best, Lightest, maxWeight, Along, here, go, Circuit}
-use Rattle.theory.proofs.Integers.{sub-within, sub-negative}
+use Rattle.theory.proofs.Integers.{sub-within, sub-mono, sub-negative}
 use Rattle.theory.proofs.Edges.{mem-edgesAt, mem-edges}
 use Rattle.theory.proofs.Sound.{PlanSound, label-below}
-use Rattle.theory.proofs.Nodes.{same-node, number-at, nodes-closed}
+use Rattle.theory.proofs.Nodes.{same-node, number-at, number-getD, nodes-distinct, nodes-closed}
 use Rattle.theory.proofs.Costs.{cost-none, cost-cons}
 use Rattle.theory.proofs.Gains.{edge-kept-le, edge-ideal-le, walk-kept-le, walk-ideal-le, fraction-fits}
 
@@ -65,18 +66,18 @@ module _ (P : Plan) where
   )
 
 -- the best edge of the label to the node where e leads
-pub record BestFor (P : Plan) (u l : ℕ) (e : Edge) : Type 0 where
-  pub node : ℕ
-  pub below : node < length (nodes P)
-  pub to : e .to ≡ nodeAt P node
-  pub edge : Edge
-  pub best : Best P u l node edge
-  pub kept : edge .kept ≡ e .kept
-  pub ideal : e .ideal ≤ edge .ideal
+record BestFor (P : Plan) (u l : ℕ) (e : Edge) : Type 0 where
+  node : ℕ
+  below : node < length (nodes P)
+  to : e .to ≡ nodeAt P node
+  edge : Edge
+  best : Best P u l node edge
+  kept : edge .kept ≡ e .kept
+  ideal : e .ideal ≤ edge .ideal
 
 module _ (P : Plan) (sd : PlanSound P) where
   -- the edges of a label are edges of the node
-  pub edgesAt-edges : (u : Node) (l : ℕ) (e : Edge) → List·Memᴰ e (edgesAt P u l) → List·Memᴰ e (edges P u)
+  edgesAt-edges : (u : Node) (l : ℕ) (e : Edge) → List·Memᴰ e (edgesAt P u l) → List·Memᴰ e (edges P u)
   edgesAt-edges u l e m =
       let at = mem-edgesAt P u l e .0 m in
       mem-edges P u e .1 (record { label = l; below = label-below P sd (u .state) l (at .next) (at .admitted); at = at })
@@ -86,7 +87,7 @@ module _ (P : Plan) (sd : PlanSound P) where
   best-edge {u} {l} {e = e} b = edgesAt-edges (nodeAt P u) l e (b .edge)
 
   -- there is one for every edge
-  pub edge-best : tooLarge P ≡ false → (u l : ℕ) (e : Edge) → u < length (nodes P) → List·Memᴰ e (edgesAt P (nodeAt P u) l) →
+  edge-best : tooLarge P ≡ false → (u l : ℕ) (e : Edge) → u < length (nodes P) → List·Memᴰ e (edgesAt P (nodeAt P u) l) →
       BestFor P u l e
   edge-best fits u l e h m = record {
     node = numberIn sameNode (nodes P) (e .to);
@@ -121,6 +122,24 @@ module _ (P : Plan) (sd : PlanSound P) where
 
       among : List·Memᴰ f (keep there all)
       among = ⊎-elim (λ p. Memᴰ·cast p (mem-keep there m (same-node (e .to) (e .to) .1 refl))) (λ k. k) (List·Memᴰ·cases-cons (r .1))
+
+  -- where the links of u are done, an edge of u leads to a known node, whose distance is no greater than with the edge's weight
+  pub done-edge : tooLarge P ≡ false → (p q : ℕ) (s : State) (u : ℕ) → u < length (nodes P) → Done (Lightest P p q) (length (nodes P)) s u →
+      (e : Edge) → List·Memᴰ e (edges P (nodeAt P u)) →
+      (s .known (numberIn sameNode (nodes P) (e .to)) ≡ true) × (s .dist (numberIn sameNode (nodes P) (e .to)) ≤ℤ (s .dist u +ℤ weight p q e))
+  done-edge fits p q s u h done e m =
+      let from = mem-edges P (nodeAt P u) e .0 m in
+      let b = edge-best fits u (from .label) e h (mem-edgesAt P (nodeAt P u) (from .label) e .1 (from .at)) in
+      let f = b .edge in
+      let found = done (from .label) (b .node) (weight p q f) (b .below) (record { edge = f; best = b .best; weighs = refl }) in
+      let at : numberIn sameNode (nodes P) (e .to) ≡ b .node =
+      ap (numberIn sameNode (nodes P)) (b .to) ∙ number-getD (nodes P) start (nodes-distinct P) (b .node) (b .below) in
+      let lighter : weight p q f ≤ℤ weight p q e =
+      sub-mono (mul-le-mul-left q (omega (arith, b .kept))) (mul-le-mul-left p (b .ideal)) in (
+        ap (s .known) at ∙ found .0,
+        subst (λ (i : ℕ). s .dist i ≤ℤ (s .dist u +ℤ weight p q e)) (sym at)
+            (≤ℤ-trans (found .1) (+ℤ-mono (≤ℤ-refl (s .dist u)) lighter)),
+      )
 
   -- every weight of the links is within the limit
   pub lightest-within : (p q n : ℕ) → fractionOk p q ≡ true → Within (Lightest P p q) n maxWeight

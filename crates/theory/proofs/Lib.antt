@@ -7,6 +7,7 @@ pub mod Walks
 pub mod Schedules
 pub mod Cycles
 pub mod Nodes
+pub mod Relaxing
 pub mod Costs
 pub mod Potentials
 pub mod Steps
@@ -20,6 +21,7 @@ pub mod Gains
 pub mod Form
 pub mod Reread
 pub mod Solved
+pub mod Passes
 pub mod Long
 pub mod Upward
 pub mod Tree
@@ -29,6 +31,7 @@ pub mod Progress
 pub mod Divisors
 pub mod Fractions
 pub mod Circuits
+pub mod Searched
 pub mod Settled
 pub mod Unique
 pub mod PlanRead

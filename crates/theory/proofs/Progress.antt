@@ -1,14 +1,15 @@
 -- How far a search has come from one state to another: the laws that the proofs of the program cite, over any links between numbers.
 -- Assumes nothing.
-use mathlib.Core.Path.{_≡_, refl, sym, _∙_}
+use mathlib.Core.Path.{_≡_, refl, sym, _∙_, ap, subst}
 use mathlib.Core.Bool.{Bool, true, false, _||_, true≢false, false≢true}
+use mathlib.Core.Logic.{_⊎_, inl, inr}
 use Prim.Native.Nat.{ℕ, _<_}
 use native.Mathlib.Decide.{ℕ-discrete}
 use native.Mathlib.Omega.{arith}
 use lib.IntN.{ℤ, _+ℤ_}
-use Rattle.theory.specs.Search.{changed, Within, State, Done, Search, Progress}
+use Rattle.theory.specs.Search.{changed, Within, State, Done, Search, Progress, Stays, LedFrom, Spread}
 use Rattle.theory.proofs.Upward.{changed-at, changed-off}
-use Rattle.theory.proofs.Search.{relaxed, tried, Alike, remaining-alike, later-refl, later-trans, later-tried, later-alike, Relaxable, search-alike, search-tried, search-relax, relax-later, relax-less}
+use Rattle.theory.proofs.Search.{relaxed, tried, Alike, remaining-alike, later-refl, later-trans, later-tried, later-alike, Relaxable, search-alike, search-tried, search-relax, relax-later, relax-from, relax-less}
 
 module _ (Link : ℕ → ℕ → ℕ → ℤ → Type 0) where
   -- nothing is done
@@ -79,3 +80,39 @@ module _ (Link : ℕ → ℕ → ℕ → ℤ → Type 0) where
         still = λ e x h. (sym (a .known x h) ∙ p .still e x h .0, sym (a .dist x h) ∙ p .still e x h .1);
         fresh = λ e x h k. p .fresh e x h (a .waiting x h ∙ k);
       }
+
+  -- ---- what links of one number lead to
+
+  pub spread-none : {n : ℕ} {s : State} {u : ℕ} → Spread Link n s s u
+  spread-none = record { source = refl; origin = λ x h. inl (refl, refl) }
+
+  pub spread-then : {n : ℕ} {s s′ s″ : State} {u : ℕ} → Spread Link n s s′ u → Spread Link n s′ s″ u → Spread Link n s s″ u
+  spread-then {s = s} {s′} {s″} {u} a b = record { source = b .source ∙ a .source; origin = λ x h. by x (a .origin x h) (b .origin x h) }
+    where
+      by : (x : ℕ) → Stays s s′ x ⊎ LedFrom Link s s′ u x → Stays s′ s″ x ⊎ LedFrom Link s′ s″ u x → Stays s s″ x ⊎ LedFrom Link s s″ u x
+      by x (inl e) (inl d) = inl (d .0 ∙ e .0, d .1 ∙ e .1)
+      by x (inr (l, w, k, e, f)) (inl d) = inr (l, w, k, d .0 ∙ e, d .1 ∙ f)
+      by x was (inr (l, w, k, e, f)) = inr (l, w, k, e, f ∙ ap (λ z. z +ℤ w) (a .source))
+
+  -- a number is reached at a smaller distance
+  pub spread-relax : {n : ℕ} {s : State} {u l v : ℕ} {w : ℤ} → Relaxable Link n s u l v w → Spread Link n s (relaxed s u l v (s .dist u +ℤ w)) u
+  spread-relax {s = s} {u} {l} {v} {w} r = record { source = relax-from Link r; origin = λ x h. by x (ℕ-discrete x v) }
+    where
+      z : ℤ
+      z = s .dist u +ℤ w
+
+      by : (x : ℕ) → Dec (x ≡ v) → Stays s (relaxed s u l v z) x ⊎ LedFrom Link s (relaxed s u l v z) u x
+      by x (yes p) =
+          inr (l, w, subst (λ (y : ℕ). Link u l y w) (sym p) (r .link), changed-at (s .known) v true x p, changed-at (s .dist) v z x p)
+      by x (no q) = inl (changed-off (s .known) v true x q, changed-off (s .dist) v z x q)
+
+  -- up to a state that is the same below n
+  pub spread-alike : {n : ℕ} {s s′ s″ : State} {u : ℕ} → u < n → Spread Link n s s′ u → Alike n s′ s″ → Spread Link n s s″ u
+  spread-alike {n} {s} {s′} {s″} {u} below a e = record {
+    source = sym (e .dist u below) ∙ a .source;
+    origin = λ x h. by x h (a .origin x h);
+  }
+    where
+      by : (x : ℕ) → x < n → Stays s s′ x ⊎ LedFrom Link s s′ u x → Stays s s″ x ⊎ LedFrom Link s s″ u x
+      by x h (inl d) = inl (sym (e .known x h) ∙ d .0, sym (e .dist x h) ∙ d .1)
+      by x h (inr (l, w, k, d, f)) = inr (l, w, k, sym (e .known x h) ∙ d, sym (e .dist x h) ∙ f)

@@ -4,12 +4,12 @@
 use mathlib.Core.Path.{_≡_, refl, sym, _∙_, ap, subst, subst₂}
 use mathlib.Core.Bool.{true, false}
 use mathlib.Core.List.{List, [], map, List·Memᴰ}
+use mathlib.Core.Option.{some}
 use Prim.Native.Nat.{ℕ, _*_, _<_, _≤_}
-use native.Mathlib.Nat.{mul-le-mul-left}
 use native.Mathlib.Omega.{arith}
 use lib.IntN.{ℤ, pos, _+ℤ_}
 use lib.ListN.{length, length-map}
-use lib.Signed.{_≤ℤ_, ≤ℤ-refl}
+use lib.Signed.{_≤ℤ_}
 use borrow.Author.Tests.{eq-eqb}
 use Rattle.model.specs.Limits.{maxSteps}
 use Rattle.model.specs.Lists.{upFrom}
@@ -19,13 +19,11 @@ use Rattle.model.specs.Graph.{Node, Edge, start, edges, nodes, tooLarge, sameNo
 use Rattle.model.specs.Walk.{Walk, here, go, kept, ideal}
 use Rattle.model.specs.Certificate.{Certificate}
 use Rattle.model.specs.Check.{potentialAt, weight, fractionOk, cycleOk}
+use Rattle.model.specs.Passes.{PassesTo, beginning}
 use Rattle.model.specs.Solve.{Solved}
 use Rattle.model.proofs.Lists.{mem-getD, length-upFrom, getD-table}
-use Rattle.words.proofs.Signed.{≤ℤ-trans, +ℤ-mono}
 use Rattle.theory.specs.Search.{Taken, State, Quiet, Search}
 use Rattle.theory.specs.Lightest.{nodeAt, Lightest, Along, stepOf}
-use Rattle.theory.proofs.Integers.{sub-mono}
-use Rattle.theory.proofs.Edges.{mem-edgesAt, mem-edges}
 use Rattle.theory.proofs.Sound.{PlanSound}
 use Rattle.theory.proofs.Nodes.{number-at, number-getD, some-node, first-node, nodes-reachable, nodes-distinct, start-in-nodes, number-start, nodes-closed}
 use Rattle.theory.proofs.Costs.{Feasible}
@@ -34,7 +32,7 @@ use Rattle.theory.proofs.Distances.{AllSmallest, pass-smallest}
 use Rattle.theory.proofs.Written.{cycle-written}
 use Rattle.theory.proofs.Solved.{solved-of}
 use Rattle.theory.proofs.Search.{search-path}
-use Rattle.theory.proofs.Circuits.{edge-best, path-along, along-walk, along-length}
+use Rattle.theory.proofs.Circuits.{done-edge, path-along, along-walk, along-length}
 
 -- the distances of the first n numbers
 abbrev pub distances : ℕ → State → List ℤ
@@ -52,20 +50,7 @@ module _ (P : Plan) (sd : PlanSound P) (fits : tooLarge P ≡ false) {p q c : �
   -- an edge from a known node leads to a known one, whose distance is no greater than with the edge's weight
   settled-edge : (u : ℕ) → u < length (nodes P) → s .known u ≡ true → (e : Edge) → List·Memᴰ e (edges P (nodeAt P u)) →
       (s .known (number (e .to)) ≡ true) × (s .dist (number (e .to)) ≤ℤ (s .dist u +ℤ weight p q e))
-  settled-edge u h k e m =
-      let from = mem-edges P (nodeAt P u) e .0 m in
-      let b = edge-best P sd fits u (from .label) e h (mem-edgesAt P (nodeAt P u) (from .label) e .1 (from .at)) in
-      let f = b .edge in
-      let done = r .done u h k (quiet u h k) (from .label) (b .node) (weight p q f) (b .below)
-      (record { edge = f; best = b .best; weighs = refl }) in
-      let at : number (e .to) ≡ b .node =
-      ap number (b .to) ∙ number-getD (nodes P) start (nodes-distinct P) (b .node) (b .below) in
-      let lighter : weight p q f ≤ℤ weight p q e =
-      sub-mono (mul-le-mul-left q (omega (arith, b .kept))) (mul-le-mul-left p (b .ideal)) in (
-        ap (s .known) at ∙ done .0,
-        subst (λ (i : ℕ). s .dist i ≤ℤ (s .dist u +ℤ weight p q e)) (sym at)
-            (≤ℤ-trans (done .1) (+ℤ-mono (≤ℤ-refl (s .dist u)) lighter)),
-      )
+  settled-edge u h k = done-edge P sd fits p q s u h (r .done u h k (quiet u h k))
 
   -- so does a walk
   settled-walk : {u v : Node} {es : List Edge} → List·Memᴰ u (nodes P) → s .known (number u) ≡ true → Walk P u v es →
@@ -109,22 +94,23 @@ module _ (P : Plan) (sd : PlanSound P) (fits : tooLarge P ≡ false) {p q c : �
 -- ---- the certificate
 
 module _ (P : Plan) (sd : PlanSound P) (fits : tooLarge P ≡ false) {p q : ℕ} (ok : fractionOk p q ≡ true) {zs : List ℤ}
-    (sized : length zs ≡ length (nodes P)) (smallest : AllSmallest P p q zs) where
+    (sized : length zs ≡ length (nodes P)) (smallest : AllSmallest P p q zs) {k : ℕ}
+    (passes : PassesTo P p q (beginning (length (nodes P))) (map some zs) k) where
   -- without a cycle, for q = 0
-  pub solved-bare : q ≡ 0 → Solved P (record { p = p; q = q; potentials = zs; node = 0; steps = [] })
+  pub solved-bare : q ≡ 0 → Solved P (record { p = p; q = q; potentials = zs; node = 0; steps = [] }) k
   unfolding cycleOk
   solved-bare e =
       solved-of P sd fits (record { p = p; q = q; potentials = zs; node = 0; steps = [] }) sized ok smallest
-      (rw (eq-eqb q 0 e)) (omega arith) (λ z. (refl, refl))
+      (rw (eq-eqb q 0 e)) (omega arith) (λ z. (refl, refl)) passes
 
   -- with a cycle along which exactly p/q is kept
   pub solved-cycle : 0 < q → {v : ℕ} {ss : List Taken} {es : List Edge} → Along P v ss v es → v < length (nodes P) →
       length ss ≤ maxSteps → 0 < ideal es → p * ideal es ≡ q * kept es →
-      Solved P (record { p = p; q = q; potentials = zs; node = v; steps = map stepOf es })
-  solved-cycle some {v} {es = es} a h few gains exact =
+      Solved P (record { p = p; q = q; potentials = zs; node = v; steps = map stepOf es }) k
+  solved-cycle positive {v} {es = es} a h few gains exact =
       solved-of P sd fits cert sized ok smallest
       (cycle-written P sd (nodes P) cert h (record { path = es; walk = along-walk P sd a; some = gains; exact = exact }) refl)
-      (omega (arith, length-map es stepOf, along-length a)) (λ z. absurd (omega arith))
+      (omega (arith, length-map es stepOf, along-length a)) (λ z. absurd (omega arith)) passes
     where
       cert : Certificate
       cert = record { p = p; q = q; potentials = zs; node = v; steps = map stepOf es }

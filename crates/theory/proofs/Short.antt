@@ -1,4 +1,5 @@
--- A walk without its loops: it passes no node twice, and costs no more where no cycle costs less than nothing.
+-- A walk without its loops: it passes no node twice, and costs no more where no cycle costs less than nothing. So a smallest cost is that of
+-- a walk with fewer edges than there are nodes.
 -- Assumes nothing.
 use mathlib.Core.Path.{_≡_, refl, sym, _∙_, ap, subst, subst₂}
 use mathlib.Core.Bool.{Bool, true, false, false≢true}
@@ -6,20 +7,23 @@ use mathlib.Core.Logic.{⊎-elim}
 use mathlib.Core.List.{List, [], _∷_, _++_, map, List·Memᴰ, List·Memᴰ·not-nil, List·Memᴰ·cases-cons, Memᴰ·cast}
 use Prim.Native.Nat.{ℕ, _<_}
 use native.Mathlib.Omega.{arith}
-use lib.IntN.{pos}
+use lib.IntN.{ℤ, pos, _+ℤ_}
 use lib.ListN.{length, length-map}
 use lib.Signed.{_≤ℤ_, ≤ℤ-refl}
 use Rattle.model.specs.Plan.{Plan}
 use Rattle.model.specs.Discovery.{among}
-use Rattle.model.specs.Graph.{Node, Edge, edges, sameNode}
+use Rattle.model.specs.Graph.{Node, Edge, start, nodes, edges, sameNode, tooLarge}
 use Rattle.model.specs.Walk.{Walk, here, go}
 use Rattle.model.specs.Check.{weight}
-use Rattle.model.specs.Solve.{cost}
-use Rattle.words.proofs.Signed.{+ℤ-mono}
-use Rattle.theory.proofs.Integers.{cheaper}
+use Rattle.model.specs.Solve.{cost, Smallest}
+use Rattle.words.proofs.Signed.{+ℤ-mono, ≤ℤ-antisymm}
+use Rattle.theory.proofs.Integers.{cheaper, not-less}
 use Rattle.model.proofs.Distinct.{Distinct, distinct-le}
-use Rattle.theory.proofs.Nodes.{among-mem, Closed}
+use Rattle.theory.proofs.Nodes.{among-mem, Closed, start-in-nodes, nodes-closed}
+use Rattle.theory.proofs.Cycles.{walk-append}
 use Rattle.theory.proofs.Costs.{cost-append, cost-cons}
+use Rattle.theory.proofs.Potentials.{potentialOf}
+use Rattle.theory.proofs.Distances.{AllSmallest, smallest-at}
 
 -- the nodes that a walk passes, from u on
 abbrev pub passed : Node → List Edge → List Node
@@ -69,14 +73,14 @@ passed-inside c {u} m (go {e = e} j w) x k =
     ⊎-elim (λ p. Memᴰ·cast p m) (λ i. passed-inside c (c u m e j) w x i) (List·Memᴰ·cases-cons k)
 
 -- a walk between the same nodes that passes none twice and costs no more
-pub record Simple (P : Plan) (p q : ℕ) (u v : Node) (es : List Edge) : Type 0 where
-  pub path : List Edge
-  pub walk : Walk P u v path
-  pub apart : Distinct (passed u path)
-  pub less : cost p q path ≤ℤ cost p q es
+record Simple (P : Plan) (p q : ℕ) (u v : Node) (es : List Edge) : Type 0 where
+  path : List Edge
+  walk : Walk P u v path
+  apart : Distinct (passed u path)
+  less : cost p q path ≤ℤ cost p q es
 
 -- no cycle from a node of the list costs less than nothing
-abbrev pub NoLoss : ℕ → ℕ → Plan → List Node → Type 0
+abbrev NoLoss : ℕ → ℕ → Plan → List Node → Type 0
 NoLoss p q P ns = (u : Node) → List·Memᴰ u ns → (es : List Edge) → Walk P u u es → pos 0 ≤ℤ cost p q es
 
 module _ (p q : ℕ) {P : Plan} {ns : List Node} (closed : Closed P ns) (no-loss : NoLoss p q P ns) where
@@ -108,12 +112,36 @@ module _ (p q : ℕ) {P : Plan} {ns : List Node} (closed : Closed P ns) (no-loss
       }
 
   -- every walk has one without loops
-  pub simple : {u v : Node} {es : List Edge} → List·Memᴰ u ns → Walk P u v es → Simple P p q u v es
+  simple : {u v : Node} {es : List Edge} → List·Memᴰ u ns → Walk P u v es → Simple P p q u v es
   simple m here = record { path = []; walk = here; apart = (List·Memᴰ·not-nil, tt); less = ≤ℤ-refl (cost p q []) }
   simple {u} m (go {e = e} j w) = simple-go m j (simple (closed u m e j) w)
 
   -- it has fewer edges than there are nodes
-  pub simple-short : {u v : Node} {es : List Edge} → List·Memᴰ u ns → (s : Simple P p q u v es) → length (s .path) < length ns
+  simple-short : {u v : Node} {es : List Edge} → List·Memᴰ u ns → (s : Simple P p q u v es) → length (s .path) < length ns
   simple-short {u} m s =
       let few = distinct-le (passed u (s .path)) ns (s .apart) (passed-inside closed m (s .walk)) in
       omega (arith, few, length-map (s .path) (λ e. e .to))
+
+-- ---- smallest costs
+
+module _ (P : Plan) (fits : tooLarge P ≡ false) (p q : ℕ) (zs : List ℤ) (smallest : AllSmallest P p q zs) where
+  -- where every node has a smallest cost, no cycle costs less than nothing
+  smallest-no-loss : NoLoss p q P (nodes P)
+  smallest-no-loss u m es w =
+      let s = smallest-at P fits p q zs smallest u m in
+      let r = s .reached in
+      let y : ℤ = potentialOf (nodes P) zs u in
+      not-less y (cost p q es)
+      (subst (λ z. y ≤ℤ z) (cost-append p q (r .0) es ∙ ap (λ z. z +ℤ cost p q es) (r .2)) (s .least (r .0 ++ es) (walk-append (r .1) w)))
+
+  -- and the smallest cost is that of a walk with fewer edges than nodes
+  pub smallest-short : {v : Node} {z : ℤ} → Smallest P p q v z →
+      (es : List Edge) × Walk P start v es × (length es < length (nodes P)) × (cost p q es ≡ z)
+  smallest-short {z = z} s =
+      let r = s .reached in
+      let t = simple p q (nodes-closed P fits) smallest-no-loss (start-in-nodes P) (r .1) in (
+        t .path,
+        t .walk,
+        simple-short p q (nodes-closed P fits) smallest-no-loss (start-in-nodes P) t,
+        ≤ℤ-antisymm (subst (λ x. cost p q (t .path) ≤ℤ x) (r .2) (t .less)) (s .least (t .path) (t .walk)),
+      )

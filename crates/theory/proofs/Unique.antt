@@ -2,7 +2,7 @@
 -- Assumes nothing.
 use mathlib.Core.Path.{_≡_, refl, sym, _∙_, ap, subst, subst₂}
 use mathlib.Core.Bool.{Bool, true, false, cond, _&&_}
-use mathlib.Core.List.{List, []}
+use mathlib.Core.List.{List, [], map}
 use mathlib.Core.Option.{Option, none, some, Option·none-ne-some, Option·some-injective}
 use Prim.Native.Nat.{ℕ, zero, suc, _*_, _/_, _<_, _∣_}
 use native.Mathlib.Nat.{mul-comm, mul-one, dvd-zero, dvd-trans, dvd-mul-left, dvd-mul-right, dvd-antisymm, mul-dvd-mul-left, dvd-of-mul-dvd-mul-left, mul-div-cancel'}
@@ -20,6 +20,7 @@ use Rattle.model.specs.Graph.{start, nodes, tooLarge}
 use Rattle.model.specs.Share.{KeptShare}
 use Rattle.model.specs.Certificate.{Certificate, Step, Parsed, certificateBytes, has, isEnd, readPotentials, readSteps, withSteps, withPotentials, readCertificate}
 use Rattle.model.specs.Check.{gcd, share, verdict, check, potentialAt}
+use Rattle.model.specs.Passes.{PassesTo, beginning}
 use Rattle.model.specs.Solve.{Smallest, Solved}
 use Rattle.theory.proofs.Divisors.{gcd-divides, gcd-greatest}
 use Rattle.theory.proofs.Accepted.{Accepted, accepted-iff, check-iff}
@@ -27,6 +28,7 @@ use Rattle.theory.proofs.Claim.{sound-claim}
 use Rattle.theory.proofs.Gains.{fraction-fits}
 use Rattle.theory.proofs.Distances.{smallest-unique}
 use Rattle.theory.proofs.Reread.{cond-some}
+use Rattle.theory.proofs.Passes.{passes-once}
 
 -- ---- lowest terms
 
@@ -130,15 +132,17 @@ read-bare bs c e zero-q =
     parsed none h = absurd (Option·none-ne-some c h)
     parsed (some r) h = ended r (eqb q 0) refl h
 
--- two certificates that the solver may write for a plan differ at most in their cycle, and at 1/0 not at all
-pub record SameButCycle (c c′ : Certificate) : Type 0 where
+-- two certificates that the solver may write for a plan differ at most in their cycle, and at 1/0 not at all, and their passes are as many
+pub record SameButCycle (c c′ : Certificate) (k k′ : ℕ) : Type 0 where
   pub p : c .p ≡ c′ .p
   pub q : c .q ≡ c′ .q
   pub potentials : c .potentials ≡ c′ .potentials
   pub bare : c .q ≡ 0 → c ≡ c′
+  pub passes : k ≡ k′
 
-pub solved-once : {P : Plan} → IsSound P → tooLarge P ≡ false → {c c′ : Certificate} → Solved P c → Solved P c′ → SameButCycle c c′
-solved-once {P} s fits {c} {c′} a b = record { p = parts .0; q = parts .1; potentials = potentials; bare = bare }
+pub solved-once : {P : Plan} → IsSound P → tooLarge P ≡ false → {c c′ : Certificate} {k k′ : ℕ} → Solved P c k → Solved P c′ k′ →
+    SameButCycle c c′ k k′
+solved-once {P} s fits {c} {c′} {k} {k′} a b = record { p = parts .0; q = parts .1; potentials = potentials; bare = bare; passes = passes }
   where
     parts : (c .p ≡ c′ .p) × (c .q ≡ c′ .q)
     parts = one-fraction P s fits c c′ (a .accepted) (b .accepted)
@@ -157,6 +161,11 @@ solved-once {P} s fits {c} {c′} a b = record { p = parts .0; q = parts .1; pot
         smallest-unique (c′ .p) (c′ .q)
         (subst₂ (λ x y. Smallest P x y (getD (nodes P) i start) (potentialAt (c .potentials) i)) (parts .0) (parts .1) (a .potentials i below))
         (b .potentials i below))
+
+    passes : k ≡ k′
+    passes =
+        passes-once P (c′ .p) (c′ .q)
+        (subst₂ (λ (x y : ℕ). PassesTo P x y (beginning (length (nodes P))) (map some (c .potentials)) k) (parts .0) (parts .1) (a .passes)) (b .passes) .1
 
     bare : c .q ≡ 0 → c ≡ c′
     bare e =

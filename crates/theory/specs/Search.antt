@@ -1,12 +1,15 @@
 -- A search for distances from number 0, over any links between numbers: its state, the tree of parents, and how far it has come.
 use mathlib.Core.Path.{_≡_}
 use mathlib.Core.Bool.{Bool, true, false, cond}
-use mathlib.Core.List.{List, [], _∷_, _++_}
+use mathlib.Core.Logic.{_⊎_}
+use mathlib.Core.List.{List, [], _∷_, _++_, map}
+use mathlib.Core.Option.{Option, none, some}
 use Prim.Native.Nat.{ℕ, zero, suc, _+_, _*_, _<_, _≤_}
 use lib.Dec.{eqb}
 use lib.IntN.{ℤ, pos, natAbs, _+ℤ_}
 use lib.Signed.{_≤ℤ_}
-use Rattle.model.specs.Lists.{sum, one}
+use Rattle.model.specs.Lists.{sum, one, upFrom}
+use Rattle.model.specs.Passes.{Distances}
 
 -- ---- the way up by parents
 
@@ -49,6 +52,17 @@ pub record State : Type 0 where
   pub dist : ℕ → ℤ
   pub parent : ℕ → ℕ
   pub label : ℕ → ℕ
+
+-- the distance of a number, if it is known, and those of the first n
+abbrev pub distanceOf : State → ℕ → Option ℤ
+distanceOf s x = cond (s .known x) (some (s .dist x)) none
+
+abbrev pub distancesOf : ℕ → State → Distances
+distancesOf n s = map (distanceOf s) (upFrom 0 n)
+
+-- the number x stands where it did
+abbrev pub Stays : State → State → ℕ → Type 0
+Stays s s′ x = (s′ .known x ≡ s .known x) × (s′ .dist x ≡ s .dist x)
 
 -- no known number below n waits
 abbrev pub Quiet : ℕ → State → Type 0
@@ -117,5 +131,14 @@ module _ (Link : ℕ → ℕ → ℕ → ℤ → Type 0) where
     pub later : Later n s s′
     pub most : remaining n c s′ ≤ remaining n c s
     pub less : moved ≡ true → remaining n c s′ < remaining n c s
-    pub still : moved ≡ false → (x : ℕ) → x < n → (s′ .known x ≡ s .known x) × (s′ .dist x ≡ s .dist x)
+    pub still : moved ≡ false → (x : ℕ) → x < n → Stays s s′ x
     pub fresh : moved ≡ false → (x : ℕ) → x < n → s′ .waiting x ≡ true → s .waiting x ≡ true
+
+  -- a link of u leads x where it stands in s′, from where u stood in s
+  abbrev pub LedFrom : State → State → ℕ → ℕ → Type 0
+  LedFrom s s′ u x = (l : ℕ) × (w : ℤ) × Link u l x w × (s′ .known x ≡ true) × (s′ .dist x ≡ s .dist u +ℤ w)
+
+  -- what trying links of u does: u stands where it did, and every number below n too, or where a link of u leads it
+  pub record Spread (n : ℕ) (s s′ : State) (u : ℕ) : Type 0 where
+    pub source : s′ .dist u ≡ s .dist u
+    pub origin : (x : ℕ) → x < n → Stays s s′ x ⊎ LedFrom s s′ u x

@@ -1,7 +1,8 @@
 -- A solution's certificate may be written. Assumes nothing.
-use mathlib.Core.Path.{_≡_, refl, sym, ap, subst, _∙_}
+use mathlib.Core.Path.{_≡_, refl, sym, ap, subst, subst₂, _∙_}
 use mathlib.Core.Bool.{false}
 use mathlib.Core.List.{List, [], _∷_, map}
+use mathlib.Core.Option.{some}
 use Prim.Native.Nat.{ℕ, zero, suc, _+_, _*_, _≤_, _<_}
 use native.Mathlib.Nat.{not-suc-le-zero}
 use native.Mathlib.Omega.{arith}
@@ -10,13 +11,15 @@ use Rattle.model.specs.Bytes.{overwrite}
 use Rattle.model.specs.Certificate.{Certificate}
 use Rattle.model.specs.Graph.{Edge, nodes, tooLarge}
 use Rattle.model.specs.Limits.{maxNodes, certificateRoom}
+use Rattle.model.specs.Passes.{beginning, PassesTo}
 use Rattle.model.specs.Plan.{Plan}
 use Rattle.model.specs.Walk.{kept, ideal}
 use Rattle.theory.specs.Search.{Quiet}
 use Rattle.theory.specs.Lightest.{Along, stepOf}
 use Rattle.theory.proofs.Circuits.{along-length, along-first, along-same}
 use Rattle.theory.proofs.Distances.{AllSmallest}
-use Rattle.theory.proofs.Settled.{length-distances, settled-smallest, solved-bare, solved-cycle}
+use Rattle.theory.proofs.Searched.{told-known-all}
+use Rattle.theory.proofs.Settled.{length-distances, settled-known, settled-smallest, solved-bare, solved-cycle}
 use Rattle.theory.proofs.Sound.{PlanSound, sound-plan}
 use Rattle.certificate_bytes.specs.Pieces.{endBytes}
 use Rattle.policy.specs.View.{tasksIn}
@@ -70,19 +73,29 @@ module _ {P : Plan} {r : Rules} {next m : List ℕ} {n : ℕ} {s : Solution} (h 
   sized : length (distancesIn m n) ≡ length (nodes P)
   sized = count ∙ sym nodes-count
 
+  search : SearchIn P (pricesOf s (length (nodes P))) m
+  search = subst (λ (k : ℕ). SearchIn P (pricesOf s k) m) (sym nodes-count) (h .search)
+
+  quiet : Quiet (length (nodes P)) (stateIn m)
+  quiet = subst (λ (k : ℕ). Quiet k (stateIn m)) (sym nodes-count) (h .quiet)
+
   -- the distances are the smallest costs
   smallest : AllSmallest P (s .p) (s .q) (distancesIn m n)
-  smallest =
-      subst (λ (k : ℕ). AllSmallest P (s .p) (s .q) (distancesIn m k)) nodes-count
-      (settled-smallest P sd fits (subst (λ (k : ℕ). SearchIn P (pricesOf s k) m) (sym nodes-count) (h .search))
-      (subst (λ (k : ℕ). Quiet k (stateIn m)) (sym nodes-count) (h .quiet)))
+  smallest = subst (λ (k : ℕ). AllSmallest P (s .p) (s .q) (distancesIn m k)) nodes-count (settled-smallest P sd fits search quiet)
+
+  -- all are known, so they are what the passes find
+  passed : PassesTo P (s .p) (s .q) (beginning (length (nodes P))) (map some (distancesIn m n)) (s .passes)
+  passed =
+      subst₂ (λ (k : ℕ) ds. PassesTo P (s .p) (s .q) (beginning k) ds (s .passes)) (sym nodes-count)
+      (told-known-all n (stateIn m) (λ v l. settled-known P sd fits search quiet v (omega (arith, l, nodes-count)))) (h .passed)
 
   -- after the head and the potentials, the end for q = 0
   pub written-bare : s .q ≡ 0 → {before after : List ℕ} → certificateRoom ≤ length before →
-      after ≡ overwrite (fronted (s .p) (s .q) n (distancesIn m n) before) (potentialsEnd n) endBytes → Written P before after (potentialsEnd n + 1)
+      after ≡ overwrite (fronted (s .p) (s .q) n (distancesIn m n) before) (potentialsEnd n) endBytes →
+      Written P (s .passes) before after (potentialsEnd n + 1)
   written-bare none {before} room is = record {
     certificate = bare;
-    solved = solved-bare P sd fits (h .fraction) sized smallest none;
+    solved = solved-bare P sd fits (h .fraction) sized smallest passed none;
     bytes = is ∙ bare-written bare count none before (omega (arith, room, count-few));
     size = sym (bare-length bare count none);
   }
@@ -90,15 +103,15 @@ module _ {P : Plan} {r : Rules} {next m : List ℕ} {n : ℕ} {s : Solution} (h 
       bare : Certificate
       bare = record { p = s .p; q = s .q; potentials = distancesIn m n; node = 0; steps = [] }
 
-  module _ (some : 0 < s .q) where
+  module _ (positive : 0 < s .q) where
     pub steps-few : s .steps ≤ n
-    steps-few = h .cycle some .few
+    steps-few = h .cycle positive .few
 
     pub steps-some : 0 < s .steps
-    steps-some = omega (arith, gain-some (h .cycle some .edges) (h .cycle some .some), edges-count m (s .steps) (h .cycle some .along))
+    steps-some = omega (arith, gain-some (h .cycle positive .edges) (h .cycle positive .some), edges-count m (s .steps) (h .cycle positive .along))
 
-    pub turns : Turns P r next m n (s .steps) (h .cycle some .node) (h .cycle some .edges)
-    turns = record { planned = h .planned; holds = h .holds; below = h .cycle some .nodes; along = h .cycle some .along }
+    pub turns : Turns P r next m n (s .steps) (h .cycle positive .node) (h .cycle positive .edges)
+    turns = record { planned = h .planned; holds = h .holds; below = h .cycle positive .nodes; along = h .cycle positive .along }
 
     pub turning : linksEnd ≤ length m → Turning r m (s .steps)
     turning room = record {
@@ -107,29 +120,30 @@ module _ {P : Plan} {r : Rules} {next m : List ℕ} {n : ℕ} {s : Solution} (h 
       plan = P;
       next = next;
       count = n;
-      node = h .cycle some .node;
-      edges = h .cycle some .edges;
+      node = h .cycle positive .node;
+      edges = h .cycle positive .edges;
       turns = turns;
     }
 
     -- and for q > 0 the cycle and the end
     pub written-full : {before middle after : List ℕ} → certificateRoom ≤ length before →
-        WritesCycle P m (s .steps) (h .cycle some .node) (fronted (s .p) (s .q) n (distancesIn m n) before) (potentialsEnd n) middle →
-        after ≡ overwrite middle (cycleEnd n (s .steps)) endBytes → Written P before after (cycleEnd n (s .steps) + 1)
+        WritesCycle P m (s .steps) (h .cycle positive .node) (fronted (s .p) (s .q) n (distancesIn m n) before) (potentialsEnd n) middle →
+        after ≡ overwrite middle (cycleEnd n (s .steps)) endBytes →
+        Written P (s .passes) before after (cycleEnd n (s .steps) + 1)
     written-full {before} room w is = record {
       certificate = full;
       solved =
-          solved-cycle P sd fits (h .fraction) sized smallest some (w .along) (omega (arith, t .below, nodes-count))
+          solved-cycle P sd fits (h .fraction) sized smallest passed positive (w .along) (omega (arith, t .below, nodes-count))
           (omega (arith, steps-length m (s .steps), steps-few, count-few)) (omega (arith, same .1, t .some))
           (ap (λ (x : ℕ). s .p * x) (same .1) ∙ t .exact ∙ ap (λ (x : ℕ). s .q * x) (sym (same .0)));
       bytes =
           is ∙ ap (λ x. overwrite x (cycleEnd n (s .steps)) endBytes) (w .bytes)
-          ∙ full-written full count some (w .edges) refl long before (omega (arith, room, steps-few, count-few));
-      size = sym (full-length full count some (w .edges) refl long);
+          ∙ full-written full count positive (w .edges) refl long before (omega (arith, room, steps-few, count-few));
+      size = sym (full-length full count positive (w .edges) refl long);
     }
       where
         t : Tight P n m (s .p) (s .q) (s .steps)
-        t = h .cycle some
+        t = h .cycle positive
 
         full : Certificate
         full = record { p = s .p; q = s .q; potentials = distancesIn m n; node = t .node; steps = map stepOf (w .edges) }

@@ -44,9 +44,9 @@ pub record Writable (r : Rules) (m : List ℕ) (n : ℕ) (s : Solution) : Type 0
   pub next : List ℕ
   pub solvable : Solvable r next m n s
 
--- a certificate that the solver may write for the plan is written, in so many bytes
-pub record Written (P : Plan) (before after : List ℕ) (count : ℕ) : Type 0 where
+-- a certificate that the solver may write for the plan after so many passes is written, in so many bytes
+pub record Written (P : Plan) (passes : ℕ) (before after : List ℕ) (count : ℕ) : Type 0 where
   pub certificate : Certificate
-  pub solved : Solved P certificate
+  pub solved : Solved P certificate passes
   pub bytes : after ≡ overwrite before 0 (certificateBytes certificate)
   pub size : count ≡ length (certificateBytes certificate)

@@ -61,7 +61,7 @@ pub fn write(
     out: &mut [u8],
 ) -> usize
     requires { ⌜ Ruled rules × Writable rules (now m) n solution × (linksEnd ≤ length (now m)) × (noteRoom ≤ length (now notes)) × (certificateRoom ≤ length (now out)) ⌝ }
-    ensures { λ r. ⌜ ((P : Plan) (next : List ℕ) → Solving P rules next (now (m .entry)) n solution → Written P (now (out .entry)) (now (out .exit)) r) ⌝ }
+    ensures { λ r. ⌜ ((P : Plan) (next : List ℕ) → Solving P rules next (now (m .entry)) n solution → Written P (solution .passes) (now (out .entry)) (now (out .exit)) r) ⌝ }
     ensures { λ _. ⌜ NotesFree (now (notes .entry)) (now (notes .exit)) ⌝ }
 {
     let p = solution.p;

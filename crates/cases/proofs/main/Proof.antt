@@ -57,6 +57,9 @@ gap-case-requires c κs = search needs
 combine-case-requires : tie.Need-combine-case-requires Inv-loop μ-loop
 combine-case-requires c κs = search needs
 
+passes-case-requires : tie.Need-passes-case-requires Inv-loop μ-loop
+passes-case-requires c κs = search needs
+
 slice-aggregate-write-all : tie.Need-slice-aggregate-write-all Inv-loop μ-loop
 slice-aggregate-write-all c = search needs
 
@@ -97,6 +100,7 @@ main-spec =
     solve-case-requires
     gap-case-requires
     combine-case-requires
+    passes-case-requires
     slice-aggregate-write-all
     write-all-requires
     sub-left

@@ -8,7 +8,8 @@ use Rattle.model.specs.Plan.{Plan}
 use Rattle.graph.specs.Outcomes.{NotesFree}
 use Rattle.distances.specs.Distances.{Sought}
 use Rattle.distances.proofs.Advances.{advance-circuit, sought-after}
-use Rattle.distances.proofs.Nodes.{TriedBelow, tried-none, tried-more}
+use Rattle.distances.proofs.Taken.{nodes-count}
+use Rattle.distances.proofs.Nodes.{TriedBelow, tried-none, tried-more, tried-all}
 use Rattle.distances.proofs.pass.Statement.{statement}
 use Rattle.distances.proofs.pass.Tie as tie
 
@@ -54,6 +55,7 @@ returns c =
           let found : 0 < call .relax-node .result .steps = omega (arith, c .if1 .taken) in
           record {
             advance = advance-circuit (b .advance) refl (call .relax-node .ensures .0 P (sought-after (b .advance) refl s) .advance) found;
+            passed = λ e. absurd (omega (arith, found));
             quiet = λ e f. absurd (omega (arith, found));
           },
       only-trans (l .inv .4) (call .relax-node .ensures .1),
@@ -89,12 +91,9 @@ same-length-4 c = c .before .loop .inv .2
 
 returns-2 : tie.Need-returns-2 Inv-loop μ-loop
 returns-2 c =
-    let l = c .before .loop in (
-      λ P s.
-          let b = l .inv .3 P s in
-          record { advance = b .advance; quiet = λ e f x h k. b .tried f x (omega arith) },
-      l .inv .4,
-    )
+    let l = c .before .loop in
+    let all : l .u ≡ c .before .before .before .before .args .prices .n = omega (arith, l .inv .0, c .loop-test .left) in
+    (λ P s. tried-all (l .inv .3 P s) all (nodes-count (s .priced)), l .inv .4)
 
 pub pass-spec : {M : Type 1} → statement M
 pass-spec =

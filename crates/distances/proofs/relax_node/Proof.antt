@@ -1,6 +1,6 @@
 -- `distances::relax_node` meets its contract: the labels one after another. Assumes nothing.
 use mathlib.Core.Path.{_≡_, refl, sym, ap, _∙_}
-use mathlib.Core.Bool.{true}
+use mathlib.Core.Bool.{true, false}
 use Prim.Native.Nat.{_-_, _*_, _%_, _^_, _<_, _≤_}
 use native.Mathlib.Omega.{arith}
 use lib.Dec.{eqb, ltb}
@@ -19,6 +19,7 @@ use Rattle.links.specs.Links.{unknown, waiting, stateIn}
 use Rattle.distances.specs.Distances.{Sought}
 use Rattle.distances.proofs.Rows.{numbered-kept}
 use Rattle.distances.proofs.Advances.{advance-none, advance-circuit, sought-after}
+use Rattle.distances.proofs.Taken.{taken-idle}
 use Rattle.distances.proofs.Labels.{DoneBelow, below-none, below-more, below-all}
 use Rattle.distances.proofs.relax_node.Statement.{statement}
 use Rattle.distances.proofs.relax_node.Tie as tie
@@ -44,11 +45,14 @@ same-length c = search needs
 returns : tie.Need-returns Inv-loop μ-loop
 returns c =
     let call = c .before .before in (
-      λ P s. record {
-        advance = advance-none (s .search);
-        tried = λ e f.
-            ap (λ (l : Link). eqb (l .mark) waiting) (sym (call .link-to .ensures)) ∙ ne-eqb (call .link-to .result .mark) waiting (c .if1 .taken);
-      },
+      λ P s.
+          let start = call .before .before .before .before in
+          let idle : stateIn (start .args .m .now) .waiting (start .args .u) ≡ false =
+          ap (λ (l : Link). eqb (l .mark) waiting) (sym (call .link-to .ensures)) ∙ ne-eqb (call .link-to .result .mark) waiting (c .if1 .taken) in record {
+            advance = advance-none (s .search);
+            taken = λ e. taken-idle (s .priced) (start .pre .2) (λ known. s .search .done (start .args .u) (start .pre .2) known idle);
+            tried = λ e f. idle;
+          },
       only-refl,
     )
 
@@ -120,6 +124,7 @@ returns-2 c =
           let found : 0 < call .relax-label .result .steps = omega (arith, c .if2 .taken) in
           record {
             advance = advance-circuit (b .advance) refl (call .relax-label .ensures .0 P (sought-after (b .advance) refl s) .advance) found;
+            taken = λ e. absurd (omega (arith, found));
             tried = λ e f. absurd (omega (arith, found));
           },
       only-trans (l .inv .4) (call .relax-label .ensures .1),

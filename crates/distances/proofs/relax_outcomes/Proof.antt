@@ -3,7 +3,7 @@
 use mathlib.Core.Path.{_≡_, refl, sym, _∙_, ap, ap₂, subst}
 use Prim.Native.Nat.{_-_, _*_, _≤_}
 use native.Mathlib.Omega.{arith}
-use lib.IntN.{ℤ, pos, _+ℤ_}
+use lib.IntN.{pos, _+ℤ_}
 use lib.ListN.{length}
 use mir.Syntax.{w64}
 use mir.Val.{SFits, toZ, ofZ}
@@ -59,7 +59,7 @@ relax-outcome-requires c κs =
     let t = l .loop .inv .2 (s .pre .plan) (s .pre .offers) in (
       record { plan = s .pre .plan; offers = t .offers },
       c .before .loop-test .taken,
-      toZ-ofZ {w = w64} (add-high (c .before .before .before)) ∙ sum (c .before .before .before) ∙ ap (λ z. z +ℤ pos (s .args .prices .q * s .args .out .kept)) (sym (t .source)),
+      toZ-ofZ {w = w64} (add-high (c .before .before .before)) ∙ sum (c .before .before .before) ∙ ap (λ z. z +ℤ pos (s .args .prices .q * s .args .out .kept)) (sym (t .spread .source)),
     )
 
 same-length : tie.Need-same-length Inv-loop μ-loop

@@ -6,18 +6,18 @@ use Rattle.words.proofs.Free.{only-refl, only-trans}
 use Rattle.model.specs.Plan.{Plan}
 use Rattle.graph.specs.Outcomes.{NotesFree}
 use Rattle.distances.specs.Distances.{Priced, Sought}
-use Rattle.distances.proofs.Passes.{Passed, ahead, passed-none, passed-sought, passed-more, pass-less, begin-sought, passed-end}
+use Rattle.distances.proofs.Passes.{Passed, ahead, ahead-most, passed-none, passed-sought, passed-less, passed-more, pass-less, begin-sought, passed-end}
 use Rattle.distances.proofs.settle.Statement.{statement}
 use Rattle.distances.proofs.settle.Tie as tie
 
 abbrev Inv-loop : tie.InvT-loop
-Inv-loop prices next rules notes₀ m₀ moved₀ steps₀ notes m moved steps =
+Inv-loop prices next rules notes₀ m₀ moved₀ steps₀ passes₀ notes m moved steps passes =
     (length notes ≡ length notes₀) × (length m ≡ length m₀)
-    × ((P : Plan) → Sought P rules next m₀ prices → Passed P prices m₀ m moved steps)
+    × ((P : Plan) → Sought P rules next m₀ prices → Passed P prices m₀ m moved steps passes)
     × NotesFree notes₀ notes
 
 abbrev μ-loop : tie.MeasureT-loop
-μ-loop prices next rules notes₀ m₀ moved₀ steps₀ notes m moved steps = ahead (prices .n) m moved
+μ-loop prices next rules notes₀ m₀ moved₀ steps₀ passes₀ notes m moved steps passes = ahead (prices .n) m moved
 
 begin-requires : tie.Need-begin-requires Inv-loop μ-loop
 begin-requires c κs = c .before .before .before .pre .1 .priced .room
@@ -42,6 +42,15 @@ pass-requires c κs =
       record { plan = pricing .plan; sought = passed-sought (head .loop .inv .2 (pricing .plan) s) s (c .before .before .loop-test .taken) },
       omega (arith, head .loop .inv .0, start .pre .2),
     )
+
+add-passes : tie.Need-add-passes Inv-loop μ-loop
+add-passes c =
+    let test = c .before .before .before .before .before .before .before in
+    let head = test .before in
+    let pricing = head .before .before .before .before .before .before .before .pre .1 in
+    let s = sought head (pricing .plan) (pricing .priced) in
+    let p = head .loop .inv .2 (pricing .plan) s in
+    record { fits = omega (arith, passed-less p (test .loop-test .taken), ahead-most s) }
 
 loop-less : tie.Need-loop-less Inv-loop μ-loop
 loop-less c =
@@ -79,7 +88,7 @@ returns : tie.Need-returns Inv-loop μ-loop
 returns c =
     let head = c .before in
     let l = head .loop in
-    (λ P priced. passed-end (head .before .before .before .begin .ensures) (l .inv .2 P (sought head P priced)) (c .loop-test .left), l .inv .3)
+    (λ P priced. passed-end (head .before .before .before .begin .ensures) priced (l .inv .2 P (sought head P priced)) (c .loop-test .left), l .inv .3)
 
 pub settle-spec : {M : Type 1} → statement M
 settle-spec =
@@ -90,6 +99,7 @@ settle-spec =
     begin-requires
     loop-holds
     pass-requires
+    add-passes
     loop-less
     loop-again
     same-length

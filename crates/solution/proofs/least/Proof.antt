@@ -1,7 +1,7 @@
 -- `solution::least` meets its contract: the fraction falls as long as a cycle is found. Assumes nothing.
 use mathlib.Core.Path.{_≡_, refl, _∙_}
 use mathlib.Core.Bool.{true}
-use Prim.Native.Nat.{_+_, _<_, _≤_}
+use Prim.Native.Nat.{ℕ, _+_, _<_, _≤_}
 use native.Mathlib.Omega.{arith}
 use lib.ListN.{length}
 use Rattle.model.specs.Check.{fractionOk}
@@ -14,14 +14,20 @@ use Rattle.theory.proofs.Fractions.{fractionLeft}
 use Rattle.model.specs.Bytes.{Only}
 use Rattle.links.specs.Links.{linksAt, linksSize, stepsSize, linksEnd}
 use Rattle.words.proofs.Free.{only-refl, only-trans}
+use Rattle.distances.specs.declared.Settled.{Settled}
+use Rattle.solution.specs.declared.Solution.{Solution}
 use Rattle.solution.proofs.Falls.{Aimed, aimed-after, aimed-circling, aimed-less}
 use Rattle.solution.proofs.least.Statement.{statement}
 use Rattle.solution.proofs.least.Tie as tie
 
+-- the solution, if no cycle was found
+abbrev at : ℕ → ℕ → ℕ → Settled → Solution
+at p q steps found = record { p = p; q = q; steps = steps; passes = found .passes }
+
 abbrev Inv-loop : tie.InvT-loop
 Inv-loop next rules n notes₀ m₀ p₀ q₀ steps₀ found₀ notes m p q steps found =
     (length notes ≡ length notes₀) × NotesFree notes₀ notes × Only linksAt (linksSize + stepsSize) m₀ m
-    × ((P : Plan) → Aimed P rules next m₀ n (record { p = p₀; q = q₀; steps = steps₀ }) found₀ → Aimed P rules next m n (record { p = p; q = q; steps = steps }) found)
+    × ((P : Plan) → Aimed P rules next m₀ n (at p₀ q₀ steps₀ found₀) (found₀ .steps) → Aimed P rules next m n (at p q steps found) (found .steps))
 
 abbrev μ-loop : tie.MeasureT-loop
 μ-loop next rules n notes₀ m₀ p₀ q₀ steps₀ found₀ notes m p q steps found = fractionLeft p q
@@ -41,7 +47,7 @@ settle-requires c κs =
 first : (c : tie.After-settle Inv-loop μ-loop) (P : Plan) →
     let a = c .before .before .before .before .before .args in
     Planned P (a .rules) (a .next .now) → Holds P (tasksIn (a .rules)) (a .m .now) (a .n) →
-    Aimed P (a .rules) (a .next .now) (c .settle .last .1 .1 .1 .1 .0) (a .n) (record { p = 1; q = 0; steps = 0 }) (c .settle .result)
+    Aimed P (a .rules) (a .next .now) (c .settle .last .1 .1 .1 .1 .0) (a .n) (at 1 0 0 (c .settle .result)) (c .settle .result .steps)
 first c P planned holds =
     aimed-after planned holds nothing-recurs (λ h. absurd (omega (arith, h))) (λ e. refl)
     (c .settle .ensures .0 P (record { planned = planned; holds = holds; fraction = nothing-recurs; room = c .before .before .before .before .before .pre .2 }))
@@ -52,7 +58,7 @@ loop-holds c = (refl, only-refl, only-refl, λ P a. a)
 -- where a turn stands, for the plan that there is
 here : (l : tie.At-loop Inv-loop μ-loop) →
     let s = l .before .before .before .before .before .before .before .before .before .before in
-    Aimed (s .pre .1 .plan) (s .args .rules) (s .args .next .now) (l .loop .m) (s .args .n) (record { p = l .loop .p; q = l .loop .q; steps = l .loop .steps }) (l .loop .found)
+    Aimed (s .pre .1 .plan) (s .args .rules) (s .args .next .now) (l .loop .m) (s .args .n) (at (l .loop .p) (l .loop .q) (l .loop .steps) (l .loop .found)) (l .loop .found .steps)
 here l =
     let s = l .before .before .before .before .before .before .before .before .before .before in
     l .loop .inv .3 (s .pre .1 .plan) (first (l .before .before .before .before .before) (s .pre .1 .plan) (s .pre .1 .planned) (s .pre .1 .holds))
@@ -65,9 +71,9 @@ notes-room l = omega (arith, l .before .before .before .before .before .before .
 
 attained-requires : tie.Need-attained-requires Inv-loop μ-loop
 attained-requires c κs =
-    let l = c .before .before .before in
+    let l = c .before .before .before .before in
     let s = l .before .before .before .before .before .before .before .before .before .before in
-    let found : 0 < l .loop .found = omega (arith, c .before .before .loop-test .taken) in (
+    let found : 0 < l .loop .found .steps = omega (arith, c .before .before .if1 .taken) in (
       s .pre .0,
       record { plan = s .pre .1 .plan; next = s .args .next .now; prices = _; circling = aimed-circling (here l) found },
       room l,
@@ -76,10 +82,10 @@ attained-requires c κs =
 
 settle-requires-2 : tie.Need-settle-requires-2 Inv-loop μ-loop
 settle-requires-2 c κs =
-    let l = c .before .before .before .before .before .before .before .before in
+    let l = c .before .before .before .before .before .before .before .before .before in
     let s = l .before .before .before .before .before .before .before .before .before .before in
     let a = here l in
-    let found : 0 < l .loop .found = omega (arith, c .before .before .before .before .before .before .before .loop-test .taken) in
+    let found : 0 < l .loop .found .steps = omega (arith, c .before .before .before .before .before .before .before .if1 .taken) in
     let f = c .before .before .before .before .attained .ensures .0 (s .pre .1 .plan) (s .args .next .now) _ (aimed-circling a found) in (
       s .pre .0,
       record { plan = s .pre .1 .plan; priced = record { planned = a .planned; holds = a .holds; fraction = f .fraction; room = room l } },
@@ -88,17 +94,17 @@ settle-requires-2 c κs =
 
 loop-less : tie.Need-loop-less Inv-loop μ-loop
 loop-less c =
-    let l = c .before .before .before .before .before .before .before .before .before .before .before .before .before in
+    let l = c .before .before .before .before .before .before .before .before .before .before .before .before .before .before in
     let s = l .before .before .before .before .before .before .before .before .before .before in
     let a = here l in
-    let found : 0 < l .loop .found = omega (arith, c .before .before .before .before .before .before .before .before .before .before .before .before .loop-test .taken) in
+    let found : 0 < l .loop .found .steps = omega (arith, c .before .before .before .before .before .before .before .before .before .before .before .before .if1 .taken) in
     aimed-less a found (c .before .before .before .before .before .before .before .before .before .attained .ensures .0 (s .pre .1 .plan) (s .args .next .now) _ (aimed-circling a found))
 
 loop-again : tie.Need-loop-again Inv-loop μ-loop
 loop-again c =
-    let l = c .before .before .before .before .before .before .before .before .before .before .before .before .before in
+    let l = c .before .before .before .before .before .before .before .before .before .before .before .before .before .before in
     let inv = l .loop .inv in
-    let found : 0 < l .loop .found = omega (arith, c .before .before .before .before .before .before .before .before .before .before .before .before .loop-test .taken) in
+    let found : 0 < l .loop .found .steps = omega (arith, c .before .before .before .before .before .before .before .before .before .before .before .before .if1 .taken) in
     let call = c .before .before .before .before .settle2 in
     let lower = c .before .before .before .before .before .before .before .before .before .attained in
     let h = l .before .before .before .before .before .before .before .before .before .before .pre .1 in
@@ -115,18 +121,18 @@ loop-again c =
     )
 
 same-length : tie.Need-same-length Inv-loop μ-loop
-same-length c = c .before .loop .inv .0 ∙ c .before .before .before .before .before .before .settle .kept .1 .1 .1 .0
+same-length c = c .before .before .loop .inv .0 ∙ c .before .before .before .before .before .before .before .settle .kept .1 .1 .1 .0
 
 same-length-2 : tie.Need-same-length-2 Inv-loop μ-loop
-same-length-2 c = c .before .loop .inv .2 .long ∙ c .before .before .before .before .before .before .settle .kept .1 .1 .1 .1 .0
+same-length-2 c = c .before .before .loop .inv .2 .long ∙ c .before .before .before .before .before .before .before .settle .kept .1 .1 .1 .1 .0
 
 returns : tie.Need-returns Inv-loop μ-loop
 returns c =
-    let l = c .before in
-    let call = c .before .before .before .before .before .before in
-    let s = c .before .before .before .before .before .before .before .before .before .before .before in
+    let l = c .before .before in
+    let call = c .before .before .before .before .before .before .before in
+    let s = c .before .before .before .before .before .before .before .before .before .before .before .before in
     let h = s .pre .1 in (
-      λ P planned holds. l .loop .inv .3 P (first call P planned holds) .rest (c .loop-test .left),
+      λ P planned holds. l .loop .inv .3 P (first call P planned holds) .rest (c .if1 .left),
       (
         only-trans (call .settle .ensures .0 (h .plan) (record { planned = h .planned; holds = h .holds; fraction = nothing-recurs; room = s .pre .2 }) .only) (l .loop .inv .2),
         only-trans (call .settle .ensures .1) (l .loop .inv .1),

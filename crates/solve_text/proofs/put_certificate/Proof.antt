@@ -4,7 +4,7 @@ use native.Mathlib.Omega.{arith}
 use Rattle.model.specs.Text.{refusedLine}
 use Rattle.text.proofs.Decimal.{refused-most}
 use Rattle.words.proofs.Put.{put-as}
-use Rattle.solve_text.proofs.Answers.{puts-refusal, puts-certificate}
+use Rattle.solve_text.proofs.Answers.{puts-over, puts-certificate}
 use borrow.Author.Needs.{needs}
 use Rattle.solve_text.proofs.put_certificate.Statement.{statement}
 use Rattle.solve_text.proofs.put_certificate.Tie as tie
@@ -38,7 +38,8 @@ returns c =
     let number = c .before .before .before .number in
     let given = c .before .before .before .before .before .before .r .given in
     let solved = c .before .before .before .before .before .before .before .before .before .before .before .before .solve .ensures in
-    puts-refusal solved (given .0 .0) (given .1) (put-as (ap refusedLine (number .ensures)) put)
+    let p = puts-over solved (given .0 .0) (given .1) (put-as (ap refusedLine (number .ensures)) put) in
+    (p .0, (p .1, solved .memory))
 
 same-length-3 : tie.Need-same-length-3
 same-length-3 c = search needs
@@ -50,7 +51,8 @@ returns-2 : tie.Need-returns-2
 returns-2 c =
     let given = c .before .n .given in
     let solved = c .before .before .before .before .before .before .before .solve .ensures in
-    puts-certificate solved (given .0 .0) (given .1)
+    let p = puts-certificate solved (given .0 .0) (given .0 .1 .0) (given .1) in
+    (p .0, (p .1, solved .memory))
 
 pub put-certificate-spec : {M : Type 1} → statement M
 put-certificate-spec =

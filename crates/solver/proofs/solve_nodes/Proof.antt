@@ -1,9 +1,10 @@
 -- `solver::solve_nodes` meets its contract: the smallest fraction, and then its certificate. Assumes nothing.
 use mathlib.Core.Path.{ap}
-use mathlib.Core.Option.{some}
+use Prim.Native.Nat.{ℕ}
 use native.Mathlib.Omega.{arith}
 use borrow.Author.Needs.{needs}
 use Rattle.words.proofs.Free.{only-trans}
+use Rattle.solver.specs.declared.Answer.the-variants.{Written}
 use Rattle.solver.proofs.solve_nodes.Statement.{statement}
 use Rattle.solver.proofs.solve_nodes.Tie as tie
 
@@ -38,7 +39,13 @@ returns c =
     let write = c .before .before .before .before .write in (
       λ P planned holds.
           let w = write .ensures .0 P (s .args .next .now) (least .ensures .0 P planned holds) in
-          record { certificate = w .certificate; solved = w .solved; size = ap some (w .size); bytes = w .bytes },
+          record {
+            certificate = w .certificate;
+            passes = least .result .passes;
+            solved = w .solved;
+            answer = ap (λ (n : ℕ). Written n (least .result .passes)) (w .size);
+            bytes = w .bytes;
+          },
       (least .ensures .1 .0, only-trans (least .ensures .1 .1) (write .ensures .1)),
     )
 

@@ -129,7 +129,7 @@ returns-2 c =
       λ P next h.
           let t = h .cycle (some-q w) in
           let cycle = w .write-cycle .ensures .1 .0 P next (a .n) (t .node) (t .edges) (turns h (some-q w)) in
-          subst (Written P (a .out .now) (end .last .0)) (ap (λ (x : ℕ). x + 1) (sym at))
+          subst (Written P (a .solution .passes) (a .out .now) (end .last .0)) (ap (λ (x : ℕ). x + 1) (sym at))
           (written-full h (some-q w) (start .pre .4)
           (subst (λ x. WritesCycle P (a .m .now) (a .solution .steps) (t .node) x (potentialsEnd (a .n)) middle) (front (second w)) cycle)
           (end .ensures ∙ ap (λ (x : ℕ). overwrite middle x endBytes) at)),

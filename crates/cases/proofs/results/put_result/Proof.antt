@@ -8,7 +8,7 @@ use Rattle.io.specs.Counts.{Counts}
 use Rattle.model.specs.Bytes.{Put}
 use Rattle.model.specs.Text.{refusedLine}
 use Rattle.words.proofs.Put.{put-as}
-use Rattle.text.proofs.Decimal.{refused-most}
+use Rattle.text.proofs.Decimal.{number-most, refused-most}
 use Rattle.text.proofs.Put.{put-inside}
 use Rattle.refusals.specs.declared.Answer.{Answer}
 use Rattle.refusals.specs.Told.{resultBy}
@@ -35,8 +35,8 @@ put-refusal-requires c κs = omega (arith, refused-most (c .number .result) (ome
 enum-known-answer-2 : tie.Need-enum-known-answer-2
 enum-known-answer-2 c = search needs
 
-put-count-requires : tie.Need-put-count-requires
-put-count-requires c κs = search needs
+put-number-line-requires : tie.Need-put-number-line-requires
+put-number-line-requires c κs = omega (arith, number-most (c .before .before .answer2 .given .0 .0) (omega arith))
 
 same-length : tie.Need-same-length
 same-length c = search needs
@@ -52,7 +52,7 @@ same-length-2 c = search needs
 returns-2 : tie.Need-returns-2
 returns-2 c =
     let x = c .before .before in
-    as-line (x .before .before .before .answer2 .given .1) refl (x .put-count .ensures)
+    as-line (x .before .before .before .answer2 .given .1) refl (x .put-number-line .ensures)
 
 pub put-result-spec : {M : Type 1} → statement M
 put-result-spec =
@@ -62,7 +62,7 @@ put-result-spec =
     number-requires
     put-refusal-requires
     enum-known-answer-2
-    put-count-requires
+    put-number-line-requires
     same-length
     returns
     same-length-2

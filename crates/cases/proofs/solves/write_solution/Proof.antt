@@ -1,18 +1,9 @@
 -- `cases::solves::write_solution` meets its contract: the lent memory is enough, and what is written is compared with the head.
 -- Assumes nothing.
-use mathlib.Core.Path.{_≡_, sym, ap₂}
-use mathlib.Core.List.{List}
-use Prim.Native.Nat.{ℕ}
 use borrow.Author.Needs.{needs}
-use Rattle.model.specs.Limits.{workRoom, certificateRoom}
-use Rattle.model.specs.Solve.{solve}
+use Rattle.solve_text.proofs.Answers.{enough}
 use Rattle.cases.proofs.solves.write_solution.Statement.{statement}
 use Rattle.cases.proofs.solves.write_solution.Tie as tie
-
--- two large buffers are memory enough
-enough : (plan : List ℕ) {lent room : ℕ} → 65536 ≡ lent → 65536 ≡ room → solve plan lent room ≡ solve plan workRoom certificateRoom
-unfolding solve
-enough plan l r = sym (ap₂ (solve plan) l r)
 
 large-buffer-requires : tie.Need-large-buffer-requires
 large-buffer-requires c κs = search needs
