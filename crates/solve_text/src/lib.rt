@@ -1,4 +1,4 @@
-// The certificate of a plan as a program writes it: its bytes, or the line of a refusal.
+// The certificate of a plan as a program writes it: its bytes, the line of the number of its passes, or that of a refusal.
 use solver::Answer;
 ghost use mathlib.Core.Path.{_≡_};
 ghost use mathlib.Core.Bool.{_&&_};

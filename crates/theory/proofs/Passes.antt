@@ -49,6 +49,12 @@ same-distance (some d) (some e) = (
 pub unmoved-same : (ds es : Distances) → (unmoved ds es ≡ true) ↔ (ds ≡ es)
 unmoved-same = same-by sameDistance same-distance
 
+-- one of distances that are all known
+known-at : (zs : List ℤ) (x : ℕ) → x < length zs → distanceAt (map some zs) x ≡ some (potentialAt zs x)
+known-at [] x h = absurd (not-suc-le-zero h)
+known-at (z ∷ zs) zero h = refl
+known-at (z ∷ zs) (suc x) h = known-at zs x (le-of-suc-le-suc h)
+
 module _ (P : Plan) (p q : ℕ) where
   -- ---- one pass
 
@@ -173,12 +179,6 @@ module _ (P : Plan) (p q : ℕ) where
         low = below-trans (record { at = λ x. there x (decLt x (length (nodes P))) }) (passes-below rest)
     few-ahead (suc r) (more {ds = ds} e rest) size a =
         omega (arith, few-ahead r rest (pass-length ds ∙ size) (λ x h. ahead-pass ds size (a x h)))
-
-    -- a distance of known ones
-    known-at : (zs : List ℤ) (x : ℕ) → x < length zs → distanceAt (map some zs) x ≡ some (potentialAt zs x)
-    known-at [] x h = absurd (not-suc-le-zero h)
-    known-at (z ∷ zs) zero h = refl
-    known-at (z ∷ zs) (suc x) h = known-at zs x (le-of-suc-le-suc h)
 
     -- "at most N"
     pub passes-few : (zs : List ℤ) → length zs ≡ length (nodes P) → AllSmallest P p q zs → {k : ℕ} →
