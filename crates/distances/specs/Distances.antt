@@ -193,7 +193,8 @@ pub record Passes (P : Plan) (prices : Prices) (before after : List ℕ) (t : Tr
 
 -- ---- the whole search
 
--- a circuit; or, without steps, a search at rest after this number of passes, and every byte of no link is as it was
+-- a circuit, and the number of passes is free; or, without steps, a search at rest after this number of passes, and every byte of no link is
+-- as it was
 pub record Settles (P : Plan) (prices : Prices) (before after : List ℕ) (r : Settled) : Type 0 where
   pub search : r .steps ≡ 0 → SearchIn P prices after × Quiet (prices .n) (stateIn after)
   pub passes : r .steps ≡ 0 → PassesAt P prices (beginning (prices .n)) (knownDistances prices after) (r .passes)

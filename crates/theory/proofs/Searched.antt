@@ -3,7 +3,7 @@
 use mathlib.Core.Path.{_≡_, refl, sym, _∙_, ap, ap₂, subst, subst₂}
 use mathlib.Core.Bool.{Bool, true, false, cond}
 use mathlib.Core.Logic.{_⊎_, inl, inr}
-use mathlib.Core.List.{List, [], _∷_, map, List·Memᴰ, List·Memᴰ·head, List·Memᴰ·tail}
+use mathlib.Core.List.{map, map-map}
 use mathlib.Core.Option.{Option, none, some}
 use Prim.Native.Nat.{ℕ, zero, suc, _+_, _*_, _-_, _<_}
 use native.Mathlib.Decide.{decLt}
@@ -18,7 +18,7 @@ use Rattle.model.specs.Graph.{start, nodes, sameNode, tooLarge}
 use Rattle.model.specs.Check.{weight}
 use Rattle.model.specs.Passes.{distanceAt, beginning, relaxNode, unmoved}
 use Rattle.model.proofs.Lists.{getD-default, getD-table, length-upFrom, map-same, mem-of-upFrom}
-use Rattle.theory.specs.Search.{State, distanceOf, distancesOf, Stays, Later, Done, LedFrom, Spread, share, remaining}
+use Rattle.theory.specs.Search.{State, distanceOf, distancesOf, distances, Stays, Later, Done, LedFrom, Spread, share, remaining}
 use Rattle.theory.specs.Lightest.{Lightest}
 use Rattle.theory.proofs.Sums.{sum-same}
 use Rattle.theory.proofs.Sound.{PlanSound}
@@ -106,12 +106,10 @@ told-start n s positive k d only =
     by (suc x) h = unknown x h (s .known (suc x)) refl ∙ sym (getD-default (n - 1) x none)
 
 -- where all are known
-pub told-known-all : (n : ℕ) (s : State) → ((v : ℕ) → v < n → s .known v ≡ true) → distancesOf n s ≡ map some (map (s .dist) (upFrom 0 n))
-told-known-all n s k = from (upFrom 0 n) (λ x m. k x (omega (arith, mem-of-upFrom 0 n m)))
-  where
-    from : (l : List ℕ) → ((x : ℕ) → List·Memᴰ x l → s .known x ≡ true) → map (distanceOf s) l ≡ map some (map (s .dist) l)
-    from [] h = refl
-    from (x ∷ l) h = ap₂ (λ y ys. y ∷ ys) (told-known s x (h x (List·Memᴰ·head refl))) (from l (λ y m. h y (List·Memᴰ·tail m)))
+pub told-all : (n : ℕ) (s : State) → ((v : ℕ) → v < n → s .known v ≡ true) → distancesOf n s ≡ map some (distances n s)
+told-all n s k =
+    map-same (distanceOf s) (λ x. some (s .dist x)) (upFrom 0 n) (λ x m. told-known s x (k x (omega (arith, mem-of-upFrom 0 n m))))
+    ∙ sym (map-map (λ z. some z) (s .dist) (upFrom 0 n))
 
 -- ---- the edges of a node
 

@@ -22,7 +22,7 @@ use Rattle.model.specs.Check.{potentialAt, weight, fractionOk, cycleOk}
 use Rattle.model.specs.Passes.{PassesTo, beginning}
 use Rattle.model.specs.Solve.{Solved}
 use Rattle.model.proofs.Lists.{mem-getD, length-upFrom, getD-table}
-use Rattle.theory.specs.Search.{Taken, State, Quiet, Search}
+use Rattle.theory.specs.Search.{Taken, State, distances, Quiet, Search}
 use Rattle.theory.specs.Lightest.{nodeAt, Lightest, Along, stepOf}
 use Rattle.theory.proofs.Sound.{PlanSound}
 use Rattle.theory.proofs.Nodes.{number-at, number-getD, some-node, first-node, nodes-reachable, nodes-distinct, start-in-nodes, number-start, nodes-closed}
@@ -33,10 +33,6 @@ use Rattle.theory.proofs.Written.{cycle-written}
 use Rattle.theory.proofs.Solved.{solved-of}
 use Rattle.theory.proofs.Search.{search-path}
 use Rattle.theory.proofs.Circuits.{done-edge, path-along, along-walk, along-length}
-
--- the distances of the first n numbers
-abbrev pub distances : ℕ → State → List ℤ
-distances n s = map (s .dist) (upFrom 0 n)
 
 pub length-distances : (n : ℕ) (s : State) → length (distances n s) ≡ n
 length-distances n s = length-map (upFrom 0 n) (s .dist) ∙ length-upFrom 0 n

@@ -60,6 +60,10 @@ distanceOf s x = cond (s .known x) (some (s .dist x)) none
 abbrev pub distancesOf : ℕ → State → Distances
 distancesOf n s = map (distanceOf s) (upFrom 0 n)
 
+-- the distances of the first n where all are known
+abbrev pub distances : ℕ → State → List ℤ
+distances n s = map (s .dist) (upFrom 0 n)
+
 -- the number x stands where it did
 abbrev pub Stays : State → State → ℕ → Type 0
 Stays s s′ x = (s′ .known x ≡ s .known x) × (s′ .dist x ≡ s .dist x)

@@ -18,7 +18,7 @@ use Rattle.theory.specs.Search.{Quiet}
 use Rattle.theory.specs.Lightest.{Along, stepOf}
 use Rattle.theory.proofs.Circuits.{along-length, along-first, along-same}
 use Rattle.theory.proofs.Distances.{AllSmallest}
-use Rattle.theory.proofs.Searched.{told-known-all}
+use Rattle.theory.proofs.Searched.{told-all}
 use Rattle.theory.proofs.Settled.{length-distances, settled-known, settled-smallest, solved-bare, solved-cycle}
 use Rattle.theory.proofs.Sound.{PlanSound, sound-plan}
 use Rattle.certificate_bytes.specs.Pieces.{endBytes}
@@ -87,7 +87,7 @@ module _ {P : Plan} {r : Rules} {next m : List ℕ} {n : ℕ} {s : Solution} (h 
   passed : PassesTo P (s .p) (s .q) (beginning (length (nodes P))) (map some (distancesIn m n)) (s .passes)
   passed =
       subst₂ (λ (k : ℕ) ds. PassesTo P (s .p) (s .q) (beginning k) ds (s .passes)) (sym nodes-count)
-      (told-known-all n (stateIn m) (λ v l. settled-known P sd fits search quiet v (omega (arith, l, nodes-count)))) (h .passed)
+      (told-all n (stateIn m) (λ v l. settled-known P sd fits search quiet v (omega (arith, l, nodes-count)))) (h .passed)
 
   -- after the head and the potentials, the end for q = 0
   pub written-bare : s .q ≡ 0 → {before after : List ℕ} → certificateRoom ≤ length before →

@@ -7,10 +7,11 @@ use lib.ListN.{length}
 use Rattle.model.specs.Bytes.{bytes, complement, overwrite}
 use Rattle.model.specs.Certificate.{Certificate, certificateBytes}
 use Rattle.model.specs.Graph.{Edge}
-use Rattle.model.specs.Lists.{flatMap, upFrom}
+use Rattle.model.specs.Lists.{flatMap}
 use Rattle.model.specs.Plan.{Plan}
 use Rattle.model.specs.Solve.{Solved}
 use Rattle.theory.specs.Lightest.{Along, stepOf}
+use Rattle.theory.specs.Search.{distances}
 use Rattle.certificate.specs.View.{potentialCommand, potentialWidth}
 use Rattle.certificate_bytes.specs.Pieces.{nodeBytes}
 use Rattle.policy.specs.declared.Rules.{Rules}
@@ -23,7 +24,7 @@ use Rattle.solution.specs.Solution.{Solvable}
 
 -- the distances of the first n nodes
 abbrev pub distancesIn : List ℕ → ℕ → List ℤ
-distancesIn m n = map (stateIn m .dist) (upFrom 0 n)
+distancesIn m n = distances n (stateIn m)
 
 -- `12` potential for each
 abbrev pub potentialsBytes : List ℤ → List ℕ
