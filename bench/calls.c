@@ -1,5 +1,5 @@
-/* Calls the library as a C program does: solves case B, checks the certificate, traces labels 2, 1, 0, gives task 1 a gap of two
-   slots, combines case B with that plan, and sees that refusals leave memory as it was. */
+/* Calls the library as a C program does: solves case B, checks the certificate, traces labels 2, 1, 0 and 3, 0, gives task 1 a gap of
+   two slots, combines case B with that plan, and sees that refusals leave memory as it was. */
 #include <stdio.h>
 #include <string.h>
 
@@ -7,6 +7,7 @@
 
 static const uint8_t plan[] = {1, 1, 1, 1, 1, 2, 2, 3, 2, 1, 3, 1, 4, 0, 0, 0, 4, 0, 1, 0, 4, 0, 2, 0, 4, 0, 3, 0, 5};
 static const uint8_t labels[] = {2, 1, 0};
+static const uint8_t busy[] = {3, 0};
 static uint8_t work[JOVNETAL_WORK_ROOM];
 static uint8_t certificate[JOVNETAL_CERTIFICATE_ROOM];
 static uint8_t slots[JOVNETAL_TRACE_ROOM];
@@ -33,6 +34,7 @@ static int all(const uint8_t *bytes, size_t length, uint8_t value) {
 
 int main(void) {
     static const uint8_t traced[] = {2, 0, 0, 1, 0, 1, 0, 0, 0};
+    static const uint8_t in_vain[] = {1, 0, 1, 2, 0, 0};
     static const uint8_t gap[] = {1, 1, 1, 1, 1, 2, 2, 3, 2, 1, 3, 2, 4, 0, 0, 0, 4, 0, 1, 1, 4, 0, 2, 0, 4, 0, 3, 1, 4, 1, 0, 0, 4, 1, 2, 0, 5};
     static const uint8_t other[] = {1, 1, 1, 1, 2, 1, 3, 1, 5};
     uint64_t numbers[4] = {7, 7, 7, 7};
@@ -54,10 +56,12 @@ int main(void) {
     expect(jovnetal_check(plan, sizeof plan, certificate, n - 1, work, sizeof work, numbers) == 6, "a certificate cut off is refused with 6");
     expect(numbers[0] == 7 && numbers[3] == 7, "a refusal leaves the numbers as they were");
     expect(jovnetal_check(plan, sizeof plan, certificate, n, work, sizeof work, numbers) == 0, "the certificate is accepted");
-    expect(numbers[0] == 1 && numbers[1] == 3 && numbers[2] == 5 && numbers[3] == 3, "the share is 1/3 of 5 nodes, with allowance 3");
+    expect(numbers[0] == 0 && numbers[1] == 1 && numbers[2] == 5 && numbers[3] == 0, "the share is 0/1 of 5 nodes, with allowance 0");
 
     n = jovnetal_trace(plan, sizeof plan, labels, sizeof labels, slots, sizeof slots);
     expect(n == sizeof traced && memcmp(slots, traced, sizeof traced) == 0, "tasks 2, 1, none run, and the gains are 0, 1, 0");
+    n = jovnetal_trace(plan, sizeof plan, busy, sizeof busy, slots, sizeof slots);
+    expect(n == sizeof in_vain && memcmp(slots, in_vain, sizeof in_vain) == 0, "a job that can't finish runs and gains nothing");
 
     memset(apart, 7, sizeof apart);
     expect(jovnetal_gap(plan, sizeof plan, 3, 2, apart, sizeof apart) == JOVNETAL_REFUSED + 14, "a gap for a third task is refused with 14");

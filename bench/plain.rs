@@ -28,7 +28,6 @@ pub fn slot(tasks: &[Task], policy: u8, jobs: &mut Vec<Job>, label: u8) -> (u8, 
             jobs.push(Job { task: i + 1, work: t.work, left: t.window });
         }
     }
-    jobs.retain(|j| j.work <= j.left);
     let key = |j: &Job| match policy {
         1 => (j.left as usize, j.task, 0),
         2 => (j.work as usize, j.task, j.left as usize),

@@ -1,5 +1,5 @@
--- The marked cases of document 01: one table, and one theorem that the definitions give every line of it. Beside it, since passes are a
--- relation and no function, those of the request about passes.
+-- The marked cases of document 01, as the requests leave them: one table, and one theorem that the definitions give every line of it. Beside
+-- it, since passes are a relation and no function, those of the request about passes.
 use mathlib.Core.Path.{_≡_, refl}
 use Prim.Native.Nat.{ℕ}
 use mathlib.Core.List.{List, [], _∷_, _++_, map}
@@ -79,7 +79,7 @@ abbrev pub certificateA : List ℕ
 certificateA = 0x11 ∷ 0x00 ∷ 0x00 ∷ 0x00 ∷ 0x01 ∷ 0x00 ∷ 0x00 ∷ 0x00 ∷ 0x01 ∷ 0x00 ∷ 0x01 ∷ 0x12 ∷ 0x00 ∷ 0x00 ∷ 0x00 ∷ 0x00 ∷ 0x00 ∷ 0x00 ∷ 0x00 ∷ 0x00 ∷ 0x13 ∷ 0x00 ∷ 0x00 ∷ 0x14 ∷ 0x01 ∷ 0x01 ∷ 0x00 ∷ 0x00 ∷ 0x00 ∷ 0x15 ∷ []
 
 abbrev pub certificateB : List ℕ
-certificateB = 0x11 ∷ 0x00 ∷ 0x00 ∷ 0x00 ∷ 0x01 ∷ 0x00 ∷ 0x00 ∷ 0x00 ∷ 0x03 ∷ 0x00 ∷ 0x05 ∷ 0x12 ∷ 0x00 ∷ 0x00 ∷ 0x00 ∷ 0x00 ∷ 0x00 ∷ 0x00 ∷ 0x00 ∷ 0x00 ∷ 0x12 ∷ 0x00 ∷ 0x00 ∷ 0x00 ∷ 0x00 ∷ 0x00 ∷ 0x00 ∷ 0x00 ∷ 0x00 ∷ 0x12 ∷ 0xff ∷ 0xff ∷ 0xff ∷ 0xff ∷ 0xff ∷ 0xff ∷ 0xff ∷ 0xfd ∷ 0x12 ∷ 0x00 ∷ 0x00 ∷ 0x00 ∷ 0x00 ∷ 0x00 ∷ 0x00 ∷ 0x00 ∷ 0x00 ∷ 0x12 ∷ 0x00 ∷ 0x00 ∷ 0x00 ∷ 0x00 ∷ 0x00 ∷ 0x00 ∷ 0x00 ∷ 0x00 ∷ 0x13 ∷ 0x00 ∷ 0x00 ∷ 0x14 ∷ 0x02 ∷ 0x00 ∷ 0x03 ∷ 0x00 ∷ 0x00 ∷ 0x14 ∷ 0x01 ∷ 0x00 ∷ 0x00 ∷ 0x00 ∷ 0x00 ∷ 0x15 ∷ []
+certificateB = 0x11 ∷ 0x00 ∷ 0x00 ∷ 0x00 ∷ 0x00 ∷ 0x00 ∷ 0x00 ∷ 0x00 ∷ 0x01 ∷ 0x00 ∷ 0x05 ∷ 0x12 ∷ 0x00 ∷ 0x00 ∷ 0x00 ∷ 0x00 ∷ 0x00 ∷ 0x00 ∷ 0x00 ∷ 0x00 ∷ 0x12 ∷ 0x00 ∷ 0x00 ∷ 0x00 ∷ 0x00 ∷ 0x00 ∷ 0x00 ∷ 0x00 ∷ 0x00 ∷ 0x12 ∷ 0x00 ∷ 0x00 ∷ 0x00 ∷ 0x00 ∷ 0x00 ∷ 0x00 ∷ 0x00 ∷ 0x00 ∷ 0x12 ∷ 0x00 ∷ 0x00 ∷ 0x00 ∷ 0x00 ∷ 0x00 ∷ 0x00 ∷ 0x00 ∷ 0x01 ∷ 0x12 ∷ 0x00 ∷ 0x00 ∷ 0x00 ∷ 0x00 ∷ 0x00 ∷ 0x00 ∷ 0x00 ∷ 0x01 ∷ 0x13 ∷ 0x00 ∷ 0x04 ∷ 0x14 ∷ 0x02 ∷ 0x00 ∷ 0x00 ∷ 0x00 ∷ 0x00 ∷ 0x14 ∷ 0x02 ∷ 0x00 ∷ 0x03 ∷ 0x00 ∷ 0x00 ∷ 0x15 ∷ []
 
 abbrev pub certificateC : List ℕ
 certificateC = 0x11 ∷ 0x00 ∷ 0x00 ∷ 0x00 ∷ 0x01 ∷ 0x00 ∷ 0x00 ∷ 0x00 ∷ 0x00 ∷ 0x00 ∷ 0x02 ∷ 0x12 ∷ 0x00 ∷ 0x00 ∷ 0x00 ∷ 0x00 ∷ 0x00 ∷ 0x00 ∷ 0x00 ∷ 0x00 ∷ 0x12 ∷ 0xff ∷ 0xff ∷ 0xff ∷ 0xff ∷ 0xff ∷ 0xff ∷ 0xff ∷ 0xff ∷ 0x15 ∷ []
@@ -95,12 +95,13 @@ withTask c d v = 0x01 ∷ c ∷ d ∷ v ∷ 0x02 ∷ 0x01 ∷ 0x03 ∷ 0x01 ∷ 
 abbrev pub fiveTasks : List ℕ
 fiveTasks = flatMap (λ i. 0x01 ∷ 0x01 ∷ 0x01 ∷ 0x01 ∷ []) (upFrom 1 4) ++ planD
 
+-- "Case B with labels 3, 0 now runs task 1, then task 2, and gains 1, then 0; its fraction becomes 0/1 with m 0"
 abbrev pub cases : List Case
 cases =
     (checking planA certificateA gives line 1 1 1 0 (some 1000))
-    ∷ (checking planB certificateB gives line 1 3 5 3 (some 333))
+    ∷ (checking planB certificateB gives line 0 1 5 0 (some 0))
     ∷ (tracing planB (2 ∷ 1 ∷ 0 ∷ []) gives slots ((2, 0) ∷ (1, 1) ∷ (0, 0) ∷ []))
-    ∷ (tracing planB (3 ∷ 0 ∷ []) gives slots ((1, 1) ∷ (0, 0) ∷ []))
+    ∷ (tracing planB (3 ∷ 0 ∷ []) gives slots ((1, 1) ∷ (2, 0) ∷ []))
     ∷ (checking planC certificateC gives line 1 0 2 1 none)
     ∷ (potentials certificateC gives signs (pos 0 ∷ negsuc 0 ∷ []))
     ∷ (checking planD certificateD gives line 1 0 1 0 none)
@@ -116,7 +117,11 @@ pub marked : map (λ c. outcome (c .input)) cases ≡ map (λ c. c .output) case
 unfolding number signed readPlan readFrom firstFault fault after width mayFollow inRange taskInRange arcInRange slot ready first key masksOf choices edgeOf edgesAt edges found nodes tooLarge readCertificate readPotentials readSteps check verdict fractionOk gcd potentialsOk cycleOk follow allowance thousandths trace traceRun
 marked = refl
 
--- ---- the passes of A, B and C
+-- ---- the passes of A, B and C, and of a plan whose nodes have to be taken by number
+
+-- E: task (2,2,69), SRT, one state admitting labels 0 and 1
+abbrev pub planE : List ℕ
+planE = 0x01 ∷ 0x02 ∷ 0x02 ∷ 0x45 ∷ 0x02 ∷ 0x02 ∷ 0x03 ∷ 0x01 ∷ 0x04 ∷ 0x00 ∷ 0x00 ∷ 0x00 ∷ 0x04 ∷ 0x00 ∷ 0x01 ∷ 0x00 ∷ 0x05 ∷ []
 
 -- the plans
 abbrev pub readA : Plan
@@ -128,6 +133,9 @@ readB = record { tasks = record { work = 1; window = 1; value = 1 } ∷ record {
 abbrev pub readC : Plan
 readC = record { tasks = record { work = 1; window = 1; value = 1 } ∷ []; policy = 1; states = 2; arcs = record { from = 0; label = 1; to = 1 } ∷ record { from = 1; label = 0; to = 1 } ∷ [] }
 
+abbrev pub readE : Plan
+readE = record { tasks = record { work = 2; window = 2; value = 69 } ∷ []; policy = 2; states = 1; arcs = map (λ l. record { from = 0; label = l; to = 0 }) (upFrom 0 2) }
+
 -- plan bytes are read as P, and the passes at p/q find these potentials
 pub record PassesFor (plan : List ℕ) (P : Plan) (p q : ℕ) (zs : List ℤ) (k : ℕ) : Type 0 where
   pub read : readPlan plan ≡ sound P
@@ -138,12 +146,19 @@ pub passes-A : PassesFor planA readA 1 1 (pos 0 ∷ []) 1
 unfolding number readPlan readFrom firstFault fault after width mayFollow inRange taskInRange arcInRange slot ready first key masksOf choices edgeOf edgesAt edges found nodes relaxNode pass
 passes-A = record { read = refl; passes = last refl }
 
-pub passes-B : PassesFor planB readB 1 3 (pos 0 ∷ pos 0 ∷ negsuc 2 ∷ pos 0 ∷ pos 0 ∷ []) 2
+pub passes-B : PassesFor planB readB 0 1 (pos 0 ∷ pos 0 ∷ pos 0 ∷ pos 1 ∷ pos 1 ∷ []) 2
 unfolding number readPlan readFrom firstFault fault after width mayFollow inRange taskInRange arcInRange slot ready first key masksOf choices edgeOf edgesAt edges found nodes relaxNode pass
 passes-B =
-    let end = map some (pos 0 ∷ pos 0 ∷ negsuc 2 ∷ pos 0 ∷ pos 0 ∷ []) in
+    let end = map some (pos 0 ∷ pos 0 ∷ pos 0 ∷ pos 1 ∷ pos 1 ∷ []) in
     record { read = refl; passes = more {ds = beginning 5} {es = end} refl (last {ds = end} refl) }
 
 pub passes-C : PassesFor planC readC 1 0 (pos 0 ∷ negsuc 0 ∷ []) 2
 unfolding number readPlan readFrom firstFault fault after width mayFollow inRange taskInRange arcInRange slot ready first key masksOf choices edgeOf edgesAt edges found nodes relaxNode pass
 passes-C = record { read = refl; passes = more refl (last refl) }
+
+-- and 2 for E, since a node's distance that a pass finds serves the nodes after it in the same pass
+pub passes-E : PassesFor planE readE 0 1 (pos 0 ∷ pos 0 ∷ pos 0 ∷ pos 69 ∷ pos 69 ∷ []) 2
+unfolding number readPlan readFrom firstFault fault after width mayFollow inRange taskInRange arcInRange slot ready first key masksOf choices edgeOf edgesAt edges found nodes relaxNode pass
+passes-E =
+    let end = map some (pos 0 ∷ pos 0 ∷ pos 0 ∷ pos 69 ∷ pos 69 ∷ []) in
+    record { read = refl; passes = more {ds = beginning 5} {es = end} refl (last {ds = end} refl) }

@@ -16,6 +16,7 @@ pub mod Passes
 pub mod Solve
 pub mod Calls
 pub mod Trace
+pub mod Hopeless
 pub mod PlanBytes
 pub mod Gap
 pub mod Combine

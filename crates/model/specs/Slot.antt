@@ -3,7 +3,7 @@ use Prim.Native.Nat.{ℕ, suc, _-_, _/_, _%_}
 use mathlib.Core.Bool.{Bool, false, cond, _&&_, _||_}
 use mathlib.Core.List.{List, [], _∷_, _++_, map, foldl}
 use mathlib.Core.Option.{Option, none, some}
-use lib.Dec.{leb, ltb, eqb}
+use lib.Dec.{ltb, eqb}
 use lib.ListN.{getD}
 use Rattle.model.specs.Lists.{consIf, keep}
 use Rattle.model.specs.Plan.{Task, Plan}
@@ -25,10 +25,6 @@ taskOf ts i = getD ts (i - 1) noTask
 abbrev pub newJobs : List Task → ℕ → ℕ → List Job
 newJobs [] l i = []
 newJobs (t ∷ ts) l i = consIf (eqb (l % 2) 1) (record { task = i; work = t .work; left = t .window }) (newJobs ts (l / 2) (suc i))
-
--- 2. "Each job with more work remaining than slots left is dropped."
-abbrev pub canFinish : Job → Bool
-canFinish j = leb (j .work) (j .left)
 
 -- the policies' numbers
 abbrev pub edf : ℕ
@@ -101,10 +97,18 @@ runFirst ts js (some chosen) = record {
   gain = cond (eqb (chosen .work) 1) (taskOf ts (chosen .task) .value) 0;
 }
 
--- the jobs that steps 1 and 2 leave
+-- The jobs that step 1 leaves. "Step 2 of the slot rule goes": all of them wait for step 3, those that can't finish too.
 unfoldable pub ready : Plan → List Job → ℕ → List Job
-ready P js l = keep canFinish (js ++ newJobs (P .tasks) l 1)
+ready P js l = js ++ newJobs (P .tasks) l 1
+
+-- the key of a job by the plan's policy
+abbrev pub keyOf : Plan → Job → List ℕ
+keyOf P j = key (P .tasks) (P .policy) j
+
+-- 3. "If any job is left, the first by the policy's key runs one slot."
+abbrev pub chosenIn : Plan → List Job → ℕ → Option Job
+chosenIn P js l = first (keyOf P) (ready P js l)
 
 -- one slot with a label, from the jobs that the slot before left
 unfoldable pub slot : Plan → List Job → ℕ → Done
-slot P js l = runFirst (P .tasks) (ready P js l) (first (key (P .tasks) (P .policy)) (ready P js l))
+slot P js l = runFirst (P .tasks) (ready P js l) (chosenIn P js l)

@@ -7,15 +7,15 @@ use mathlib.Core.Logic.{⊎-elim, _⊎_, inl, inr}
 use Prim.Native.Nat.{ℕ, zero, suc, _+_, _-_, _%_, _≤_, _<_}
 use native.Mathlib.Omega.{arith}
 use borrow.Author.Tests.{lt-ltb, le-ltb, ltb-true, ltb-false, eq-eqb, eqb-true, eqb-false}
-use lib.Dec.{leb, ltb, eqb}
+use lib.Dec.{ltb, eqb}
 use lib.ListN.{length, getD, length-set, replicate, length-replicate, getD-replicate, List·getD-eq-default}
 use lib.Seq.{getD-set-same, getD-set-other}
 use Rattle.model.specs.Limits.{maxTasks, maxWindow}
 use Rattle.model.specs.Lists.{consIf, keep, flatMap, upFrom}
 use Rattle.model.specs.Plan.{Task}
-use Rattle.model.specs.Slot.{Job, noTask, canFinish, worked, tick, stays}
+use Rattle.model.specs.Slot.{Job, noTask, worked, tick, stays}
 use Rattle.model.proofs.Lists.{flatMap-append, getD-table, mem-of-upFrom, upFrom-append, flatMap-same, flatMap-none}
-use Rattle.policy.specs.View.{Tasks, cellCount, slotCells, taskIn, taskAt, leftIn, leftTable, jobIn, jobsIn, jobsOf, InRange, TasksInRange, Cells, Leaves, hopefulIn, hopeful, workedIn, stayingIn, aged}
+use Rattle.policy.specs.View.{Tasks, cellCount, slotCells, taskIn, taskAt, leftIn, leftTable, jobIn, jobsIn, jobsOf, InRange, TasksInRange, Cells, Leaves, workedIn, stayingIn, aged}
 use Rattle.policy.proofs.Lists.{keep-flatMap, map-flatMap, flatMap-shift, map-shift, length-table}
 
 -- ---- ranges
@@ -89,43 +89,6 @@ empty-cells ts n = record { size = length-replicate n 0; work = λ k. omega (ari
     zeros zero k = refl
     zeros (suc m) zero = refl
     zeros (suc m) (suc k) = zeros m k
-
--- ---- 2. jobs that can finish
-
-hopeful-cell : (ts : Tasks) (k w : ℕ) → keep canFinish (jobsIn ts k w) ≡ jobsIn ts k (cond (leb w (leftIn ts k)) w 0)
-hopeful-cell ts k w = go (ltb 0 w) (leb w (leftIn ts k)) refl refl
-  where
-    go : (a b : Bool) → ltb 0 w ≡ a → leb w (leftIn ts k) ≡ b → keep canFinish (consIf a (jobIn ts k w) []) ≡ jobsIn ts k (cond b w 0)
-    go true true p q = rw (p, q)
-    go true false p q = rw q
-    go false true p q = rw p
-    go false false p q = refl
-
-module _ (ts : Tasks) (left : List ℕ) (e : left ≡ leftTable ts) (cells : List ℕ) (h : Cells ts slotCells cells) where
-  hopeful-in : (k : ℕ) → k < slotCells → jobsIn ts k (hopefulIn cells left k) ≡ keep canFinish (jobsIn ts k (getD cells k 0))
-  hopeful-in k lt =
-      ap (λ l. jobsIn ts k (cond (leb (getD cells k 0) l) (getD cells k 0) 0)) (left-entry ts left e k lt)
-      ∙ sym (hopeful-cell ts k (getD cells k 0))
-
-  hopeful-jobs : jobsOf ts (hopeful cells left) ≡ keep canFinish (jobsOf ts cells)
-  unfolding hopeful
-  hopeful-jobs =
-      jobs-table ts (hopefulIn cells left) slotCells
-      ∙ flatMap-same (λ k. jobsIn ts k (hopefulIn cells left k)) (λ k. keep canFinish (jobsIn ts k (getD cells k 0))) (upFrom 0 slotCells)
-      (λ k m. hopeful-in k (omega (arith, mem-of-upFrom 0 slotCells m)))
-      ∙ sym (keep-flatMap canFinish (λ k. jobsIn ts k (getD cells k 0)) (upFrom 0 slotCells))
-      ∙ ap (keep canFinish) (sym (jobs-sized ts slotCells cells (h .size)))
-
-  hopeful-cells : Cells ts slotCells (hopeful cells left)
-  unfolding hopeful
-  hopeful-cells = cells-table ts (hopefulIn cells left) slotCells (λ k lt. go k (leb (getD cells k 0) (getD left k 0)))
-    where
-      go : (k : ℕ) (b : Bool) → FitCell ts k (cond b (getD cells k 0) 0)
-      go k true = (h .work k, h .left k)
-      go k false = (omega arith, λ lt. absurd (omega arith))
-
-  pub hopeful-leaves : {after : List ℕ} → after ≡ hopeful cells left → Leaves ts (keep canFinish (jobsOf ts cells)) slotCells after
-  hopeful-leaves is = leaves-same is hopeful-jobs hopeful-cells
 
 -- ---- 4. slots left falls by 1
 

@@ -12,7 +12,7 @@ use lib.ListN.{getD}
 use Rattle.model.specs.Limits.{maxTasks}
 use Rattle.model.specs.Lists.{consIf, keep}
 use Rattle.model.specs.Plan.{Task, Plan}
-use Rattle.model.specs.Slot.{Job, Done, newJobs, canFinish, key, first, worked, tick, stays, runFirst, ready, slot, taskOf}
+use Rattle.model.specs.Slot.{Job, Done, newJobs, key, first, worked, tick, stays, runFirst, ready, slot, taskOf}
 use Rattle.policy.specs.View.{Tasks, slotCells, taskIn, taskAt, jobIn, jobsOf}
 use Rattle.policy.proofs.Cells.{hasWork}
 use Rattle.policy.proofs.Keys.{task-number, choiceIn}
@@ -28,13 +28,13 @@ stays-works (j ∷ js) = go (hasWork j) refl (stays-works js)
     go false e h = rw e h
 
 module _ (P : Plan) (ts : Tasks) (policy : ℕ) (same : P .tasks ≡ ts) (by : P .policy ≡ policy) (js : List Job) (l : ℕ) (cells : List ℕ)
-    (dropped : jobsOf ts cells ≡ keep canFinish (js ++ newJobs ts l 1)) where
-  -- the rule from the cells that the first two steps leave
+    (entered : jobsOf ts cells ≡ js ++ newJobs ts l 1) where
+  -- the rule from the cells that step 1 leaves
   slot-ready : slot P js l ≡ runFirst ts (jobsOf ts cells) (first (key ts policy) (jobsOf ts cells))
   unfolding slot ready
   slot-ready =
-      (λ i. runFirst (same i) (keep canFinish (js ++ newJobs (same i) l 1)) (first (key (same i) (by i)) (keep canFinish (js ++ newJobs (same i) l 1))))
-      ∙ ap (λ r. runFirst ts r (first (key ts policy) r)) (sym dropped)
+      (λ i. runFirst (same i) (js ++ newJobs (same i) l 1) (first (key (same i) (by i)) (js ++ newJobs (same i) l 1)))
+      ∙ ap (λ r. runFirst ts r (first (key ts policy) r)) (sym entered)
 
   pub slot-idle : (at : ℕ) → at ≡ slotCells → choiceIn ts cells at ≡ first (key ts policy) (jobsOf ts cells)
       → (older : List ℕ) → jobsOf ts older ≡ keep stays (map tick (jobsOf ts cells)) → _≡_ {A = Done} (record { jobs = jobsOf ts older; ran = 0; gain = 0 }) (slot P js l)

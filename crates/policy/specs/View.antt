@@ -3,7 +3,7 @@ use mathlib.Core.Path.{_≡_}
 use mathlib.Core.Bool.{cond}
 use mathlib.Core.List.{List, [], _++_, map}
 use Prim.Native.Nat.{ℕ, zero, suc, _+_, _-_, _*_, _/_, _%_, _<_, _≤_}
-use lib.Dec.{eqb, leb, ltb}
+use lib.Dec.{eqb, ltb}
 use lib.ListN.{length, getD, set}
 use Rattle.model.specs.Limits.{maxTasks, maxWindow}
 use Rattle.model.specs.Lists.{consIf, flatMap, upFrom, bit}
@@ -82,13 +82,6 @@ newWork ts l i = cond (bit l i) (getD ts i noTask .work) 0
 -- 1. "The new jobs join with C slots of work remaining": the cells, and then one for each task.
 unfoldable pub joinedCells : Tasks → List ℕ → ℕ → List ℕ
 joinedCells ts cells l = cells ++ map (newWork ts l) (upFrom 0 maxTasks)
-
--- 2. "Each job with more work remaining than slots left is dropped."
-abbrev pub hopefulIn : List ℕ → List ℕ → ℕ → ℕ
-hopefulIn cells left k = cond (leb (getD cells k 0) (getD left k 0)) (getD cells k 0) 0
-
-unfoldable pub hopeful : List ℕ → List ℕ → List ℕ
-hopeful cells left = map (hopefulIn cells left) (upFrom 0 slotCells)
 
 -- the policies' keys, each as one number that orders as the key does
 abbrev pub keyNumber : ℕ → ℕ → ℕ → ℕ

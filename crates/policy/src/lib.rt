@@ -7,12 +7,12 @@ ghost use mathlib.Core.Path.{_≡_};
 ghost use mathlib.Core.Bool.{cond};
 ghost use mathlib.Core.List.{[], _++_};
 ghost use Prim.Native.Nat.{_<_};
-ghost use lib.Dec.{eqb, leb, ltb};
+ghost use lib.Dec.{eqb, ltb};
 ghost use lib.ListN.{getD, replicate};
 ghost use Rattle.model.specs.Limits.{maxTasks};
 ghost use Rattle.model.specs.Plan.{IsSound};
 ghost use Rattle.plan.specs.View.{taskView, tasksOf, planOf, Sized};
-ghost use Rattle.policy.specs.View.{Tasks, cellCount, slotCells, taskAt, leftIn, leftTable, Cells, Leaves, newWork, joinedCells, hopeful, keyNumber, keyIn, codeIn, firstCell, workedIn, aged, tasksIn, Ruled, RulesOf, Slotted};
+ghost use Rattle.policy.specs.View.{Tasks, cellCount, slotCells, taskAt, leftIn, leftTable, Cells, Leaves, newWork, joinedCells, keyNumber, keyIn, codeIn, firstCell, workedIn, aged, tasksIn, Ruled, RulesOf, Slotted};
 
 const MAX_TASKS: usize = Node::MAX_TASKS;
 
@@ -154,26 +154,6 @@ fn join(tasks: [Task; MAX_TASKS], count: usize, cells: [u8; CELLS], label: u8) -
     joined
 }
 
-// The work of a job that can finish, 0 of one that cannot.
-fn if_hopeful(work: u8, left: u8) -> u8
-    ensures { λ r. ⌜ r ≡ cond (leb work left) work 0 ⌝ }
-{
-    if work <= left { work } else { 0 }
-}
-
-// 2. Each job with more work remaining than slots left is dropped.
-fn drop_hopeless(cells: &[u8; SLOT_CELLS], left: &[u8; SLOT_CELLS]) -> [u8; SLOT_CELLS]
-    ensures { λ r. ⌜ r ≡ hopeful (now (cells .entry)) (now (left .entry)) ⌝ }
-{
-    let mut kept = [0u8; SLOT_CELLS];
-    let mut k = 0;
-    while k < SLOT_CELLS {
-        kept[k] = if_hopeful(cells[k], left[k]);
-        k += 1;
-    }
-    kept
-}
-
 // The parts of a key as one number.
 fn key(high: u8, task: u8, low: u8) -> u32
     ensures { λ r. ⌜ r ≡ keyNumber high task low ⌝ }
@@ -272,7 +252,7 @@ fn gain_in(tasks: [Task; MAX_TASKS], count: usize, k: usize, work: u8) -> u8
     0
 }
 
-// One slot with a label, from the cells that the slot before left.
+// One slot with a label, from the cells that the slot before left: steps 1, 3 and 4.
 pub fn slot(rules: Rules, cells: [u8; CELLS], label: u8) -> Done
     requires { ⌜ Ruled rules × Cells (tasksIn rules) cellCount cells ⌝ }
     ensures { λ r. ⌜ Slotted rules cells label r ⌝ }
@@ -280,8 +260,7 @@ pub fn slot(rules: Rules, cells: [u8; CELLS], label: u8) -> Done
     let tasks = rules.tasks;
     let count = rules.count;
     let left = rules.left;
-    let joined = join(tasks, count, cells, label);
-    let ready = drop_hopeless(&joined, &left);
+    let ready = join(tasks, count, cells, label);
     let at = choose(rules.policy, &ready, &left);
     if at == SLOT_CELLS {
         let older = age(&ready, &left);
@@ -294,9 +273,10 @@ pub fn slot(rules: Rules, cells: [u8; CELLS], label: u8) -> Done
     let gain = gain_in(tasks, count, at, ready[at]);
     let after = run(ready, at);
     let older = age(&after, &left);
+    let ran = (at % MAX_TASKS + 1) as u8;
     Done {
         cells: older,
-        ran: (at % MAX_TASKS + 1) as u8,
+        ran,
         gain,
     }
 }

@@ -5,6 +5,7 @@ pub mod Edges
 pub mod Sound
 pub mod Walks
 pub mod Schedules
+pub mod Hopeless
 pub mod Cycles
 pub mod Nodes
 pub mod Relaxing
@@ -34,6 +35,7 @@ pub mod Circuits
 pub mod Searched
 pub mod Settled
 pub mod Unique
+pub mod Zero
 pub mod PlanRead
 pub mod PlanForm
 pub mod Automata

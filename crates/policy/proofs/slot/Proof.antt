@@ -1,12 +1,10 @@
 -- `policy::slot` meets its contract: the steps on cells are those of the rule.
 -- Assumes nothing.
-use mathlib.Core.Path.{_≡_, ap, _∙_}
 use mathlib.Core.List.{_++_}
 use Prim.Native.Nat.{_<_}
-use Rattle.model.specs.Lists.{keep}
-use Rattle.model.specs.Slot.{canFinish, newJobs}
+use Rattle.model.specs.Slot.{newJobs}
 use Rattle.policy.specs.View.{Tasks, slotCells, jobsOf, tasksIn, Leaves, Ruled}
-use Rattle.policy.proofs.Cells.{hopeful-leaves, worked-leaves, aged-leaves}
+use Rattle.policy.proofs.Cells.{worked-leaves, aged-leaves}
 use Rattle.policy.proofs.NewJobs.{joined-leaves}
 use Rattle.policy.proofs.Keys.{Chosen, first-cell}
 use Rattle.policy.proofs.Rule.{slot-idle, slot-ran}
@@ -15,43 +13,31 @@ use native.Mathlib.Omega.{arith}
 use Rattle.policy.proofs.slot.Statement.{statement}
 use Rattle.policy.proofs.slot.Tie as tie
 
-abbrev start : tie.After-drop-hopeless → tie.Start
-start d = d .before .before .before .before .before .before
+abbrev start : tie.After-join → tie.Start
+start d = d .before .before .before
 
-abbrev tasks : tie.After-drop-hopeless → Tasks
+abbrev tasks : tie.After-join → Tasks
 tasks d = tasksIn (start d .args .rules)
 
--- what the first two steps leave
-module _ (d : tie.After-drop-hopeless) where
+-- what step 1 leaves
+module _ (d : tie.After-join) where
   ruled : Ruled (start d .args .rules)
   ruled = start d .pre .0
 
-  entered : Leaves (tasks d) (jobsOf (tasks d) (start d .args .cells) ++ newJobs (tasks d) (start d .args .label) 1) slotCells (d .before .before .before .join .result)
-  entered =
-      joined-leaves (tasks d) (start d .args .cells) (start d .args .label) (ruled .tasks) (start d .pre .1) (d .before .before .before .join .ensures)
-
-  readied : Leaves (tasks d) (keep canFinish (jobsOf (tasks d) (d .before .before .before .join .result))) slotCells (d .drop-hopeless .result)
-  readied =
-      hopeful-leaves (tasks d) _ (ruled .left) (d .before .before .before .join .result) (entered .cells) (d .drop-hopeless .ensures)
-
-  dropped : jobsOf (tasks d) (d .drop-hopeless .result)
-      ≡ keep canFinish (jobsOf (tasks d) (start d .args .cells) ++ newJobs (tasks d) (start d .args .label) 1)
-  dropped = readied .jobs ∙ ap (keep canFinish) (entered .jobs)
+  entered : Leaves (tasks d) (jobsOf (tasks d) (start d .args .cells) ++ newJobs (tasks d) (start d .args .label) 1) slotCells (d .join .result)
+  entered = joined-leaves (tasks d) (start d .args .cells) (start d .args .label) (ruled .tasks) (start d .pre .1) (d .join .ensures)
 
 -- the job that is chosen
-chosen : (c : tie.After-choose) → Chosen (tasks (c .before .before .before)) (start (c .before .before .before) .args .rules .policy) (c .before .before .before .drop-hopeless .result) (c .choose .result)
+chosen : (c : tie.After-choose) → Chosen (tasks (c .before .before .before)) (start (c .before .before .before) .args .rules .policy) (c .before .before .before .join .result) (c .choose .result)
 chosen c =
     let d = c .before .before .before in
-    first-cell (tasks d) (start d .args .rules .policy) (ruled d .tasks) _ (ruled d .left) (d .drop-hopeless .result) (readied d .cells) (c .choose .ensures)
+    first-cell (tasks d) (start d .args .rules .policy) (ruled d .tasks) _ (ruled d .left) (d .join .result) (entered d .cells) (c .choose .ensures)
 
 inside : (c : tie.Else1) → c .before .choose .result < slotCells
 inside c = omega (arith, chosen (c .before) .bound, c .if1 .left)
 
 join-requires : tie.Need-join-requires
 join-requires c κs = search needs
-
-drop-hopeless-requires : tie.Need-drop-hopeless-requires
-drop-hopeless-requires c κs = search needs
 
 choose-requires : tie.Need-choose-requires
 choose-requires c κs = search needs
@@ -63,9 +49,9 @@ returns : tie.Need-returns
 returns c =
     let ch = c .before .before .before .before in
     let d = ch .before .before .before in
-    let aged = aged-leaves (tasks d) (ruled d .tasks) _ (ruled d .left) (d .drop-hopeless .result) (readied d .cells) (c .age .ensures) in
+    let aged = aged-leaves (tasks d) (ruled d .tasks) _ (ruled d .left) (d .join .result) (entered d .cells) (c .age .ensures) in
     record {
-      rule = λ P same by. slot-idle P (tasks d) _ same by _ _ (d .drop-hopeless .result) (dropped d) (ch .choose .result) (c .before .before .before .if1 .taken) (chosen ch .choice) _ (aged .jobs);
+      rule = λ P same by. slot-idle P (tasks d) _ same by _ _ (d .join .result) (entered d .jobs) (ch .choose .result) (c .before .before .before .if1 .taken) (chosen ch .choice) _ (aged .jobs);
       cells = aged .cells;
     }
 
@@ -81,11 +67,11 @@ run-requires c κs = (inside (c .before), chosen (c .before .before) .work (insi
 age-requires-2 : tie.Need-age-requires-2
 age-requires-2 c κs = search needs
 
-add-t29 : tie.Need-add-t29
-add-t29 c = search needs
+add-ran : tie.Need-add-ran
+add-ran c = search needs
 
-cast-t24 : tie.Need-cast-t24
-cast-t24 c = search needs
+cast-ran : tie.Need-cast-ran
+cast-ran c = search needs
 
 returns-2 : tie.Need-returns-2
 returns-2 c =
@@ -93,10 +79,10 @@ returns-2 c =
     let ch = other .before in
     let d = ch .before .before .before in
     let run = c .before .before .before .run in
-    let ran = worked-leaves (tasks d) (d .drop-hopeless .result) (ch .choose .result) (readied d .cells) (inside other) (chosen ch .work (inside other)) (run .ensures) in
+    let ran = worked-leaves (tasks d) (d .join .result) (ch .choose .result) (entered d .cells) (inside other) (chosen ch .work (inside other)) (run .ensures) in
     let aged = aged-leaves (tasks d) (ruled d .tasks) _ (ruled d .left) (run .result) (ran .cells) (c .age2 .ensures) in
     record {
-      rule = λ P same by. slot-ran P (tasks d) _ same by _ _ (d .drop-hopeless .result) (dropped d) (ch .choose .result) (inside other) (chosen ch .choice) _ _ (ran .jobs) (aged .jobs) _ (c .before .before .before .before .gain-in .ensures);
+      rule = λ P same by. slot-ran P (tasks d) _ same by _ _ (d .join .result) (entered d .jobs) (ch .choose .result) (inside other) (chosen ch .choice) _ _ (ran .jobs) (aged .jobs) _ (c .before .before .before .before .gain-in .ensures);
       cells = aged .cells;
     }
 
@@ -105,7 +91,6 @@ slot-spec =
     tie.close
     (tie.spec
     join-requires
-    drop-hopeless-requires
     choose-requires
     age-requires
     returns
@@ -113,6 +98,6 @@ slot-spec =
     gain-in-requires
     run-requires
     age-requires-2
-    add-t29
-    cast-t24
+    add-ran
+    cast-ran
     returns-2)

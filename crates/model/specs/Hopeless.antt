@@ -1,0 +1,43 @@
+-- What the policies do with a job that can't finish.
+use mathlib.Core.Path.{_≡_}
+use Prim.Native.Nat.{ℕ, _<_, _≤_}
+use mathlib.Core.Bool.{true}
+use mathlib.Core.List.{List, [], _∷_, List·Memᴰ}
+use mathlib.Core.Logic.{_⊎_}
+use mathlib.Core.Option.{Option, none, some}
+use lib.ListN.{length}
+use Rattle.model.specs.Plan.{Plan}
+use Rattle.model.specs.Slot.{Job, keyBelow, worked, tick, ready, keyOf, chosenIn, slot}
+
+-- a job "that can't finish": it is still there, with more work remaining than slots left
+pub record Hopeless (j : Job) : Type 0 where
+  pub present : 0 < j .left
+  pub short : j .left < j .work
+
+-- the jobs that the slots of the labels leave: "each label finds .. the jobs that the label before it left"
+abbrev pub jobsAfter : Plan → List Job → List ℕ → List Job
+jobsAfter P js [] = js
+jobsAfter P js (l ∷ ls) = jobsAfter P (slot P js l .jobs) ls
+
+-- a job after steps 3 and 4 of a slot that chose this job, if any
+abbrev pub afterChoice : Option Job → Job → Job
+afterChoice none j = tick j
+afterChoice (some chosen) j = tick (worked chosen j)
+
+-- a job of js after the slots of the labels, whether it is still there or not
+abbrev pub jobAfter : Plan → List Job → Job → List ℕ → Job
+jobAfter P js j [] = j
+jobAfter P js j (l ∷ ls) = jobAfter P (slot P js l .jobs) (afterChoice (chosenIn P js l) j) ls
+
+-- It "may be chosen, runs, gains nothing", in a slot with any label: the job j of js is chosen where it is the first by the policy's key,
+-- and where it is chosen it runs and nothing is gained.
+pub record Unpaid (P : Plan) (js : List Job) (j : Job) : Type 0 where
+  pub chosen : (l : ℕ) → ((k : Job) → List·Memᴰ k (ready P js l) → (k ≡ j) ⊎ (keyBelow (keyOf P j) (keyOf P k) ≡ true)) → chosenIn P js l ≡ some j
+  pub runs : (l : ℕ) → chosenIn P js l ≡ some j → (slot P js l .ran ≡ j .task) × (slot P js l .gain ≡ 0)
+
+-- "a job that can't finish may be chosen, runs, gains nothing, and leaves when its slots left reach 0", whatever labels follow
+pub record StaysUnpaid (P : Plan) (js : List Job) (j : Job) : Type 0 where
+  pub stays : (ls : List ℕ) → length ls < j .left → List·Memᴰ (jobAfter P js j ls) (jobsAfter P js ls)
+  pub hopeless : (ls : List ℕ) → length ls < j .left → Hopeless (jobAfter P js j ls)
+  pub unpaid : (ls : List ℕ) → length ls < j .left → Unpaid P (jobsAfter P js ls) (jobAfter P js j ls)
+  pub leaves : (ls : List ℕ) → j .left ≤ length ls → List·Memᴰ (jobAfter P js j ls) (jobsAfter P js ls) → ⊥
