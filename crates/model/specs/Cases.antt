@@ -119,7 +119,7 @@ marked = refl
 
 -- ---- the passes of A, B and C, and of a plan whose nodes have to be taken by number
 
--- E: task (2,2,69), SRT, one state admitting labels 0 and 1
+-- E, of the second implementation: task (2,2,69), SRT, one state admitting labels 0 and 1
 abbrev pub planE : List ℕ
 planE = 0x01 ∷ 0x02 ∷ 0x02 ∷ 0x45 ∷ 0x02 ∷ 0x02 ∷ 0x03 ∷ 0x01 ∷ 0x04 ∷ 0x00 ∷ 0x00 ∷ 0x00 ∷ 0x04 ∷ 0x00 ∷ 0x01 ∷ 0x00 ∷ 0x05 ∷ []
 

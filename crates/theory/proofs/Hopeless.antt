@@ -8,9 +8,9 @@ use mathlib.Core.Option.{Option, none, some}
 use Prim.Native.Nat.{ℕ, suc, _-_, _<_, _≤_}
 use native.Mathlib.Omega.{arith}
 use borrow.Author.Tests.{lt-ltb, le-ltb, ltb-true, eqb-true, ne-eqb}
-use lib.Dec.{T, ltb, eqb}
+use lib.Dec.{ltb, eqb}
 use lib.ListN.{length, getD}
-use Rattle.model.specs.Hopeless.{Hopeless, jobsAfter, afterChoice, jobAfter, Unpaid, StaysUnpaid}
+use Rattle.model.specs.Hopeless.{Hopeless, jobsAfter, afterChoice, jobAfter, IsFirst, Unpaid, StaysUnpaid}
 use Rattle.model.specs.Lists.{keep}
 use Rattle.model.specs.Plan.{Plan}
 use Rattle.model.specs.Slot.{Job, Done, newJobs, keyBelow, sooner, first, isJob, worked, tick, stays, runFirst, ready, keyOf, chosenIn, slot}
@@ -42,7 +42,7 @@ module _ (k : Job → List ℕ) (m : Job) where
   Follows j = (j ≡ m) ⊎ (keyBelow (k m) (k j) ≡ true)
 
   abbrev FollowsIfAny : Option Job → Type 0
-  FollowsIfAny none = T true
+  FollowsIfAny none = Unit {0}
   FollowsIfAny (some j) = Follows j
 
   either : (b : Bool) (i j : Job) → i ≡ m → j ≡ m → cond b i j ≡ m
@@ -54,7 +54,7 @@ module _ (k : Job → List ℕ) (m : Job) where
   stays-first j (inl e) = either (keyBelow (k j) (k m)) j m e refl
   stays-first j (inr e) = rw (below-once (k m) (k j) e)
 
-  found-first : (js : List Job) → ((j : Job) → List·Memᴰ j js → Follows j) → foldl (sooner k) (some m) js ≡ some m
+  found-first : (js : List Job) → IsFirst k m js → foldl (sooner k) (some m) js ≡ some m
   found-first [] h = refl
   found-first (x ∷ js) h =
       ap (λ j. foldl (sooner k) (some j) js) (stays-first x (h x (List·Memᴰ·head refl))) ∙ found-first js (λ j i. h j (List·Memᴰ·tail i))
@@ -73,7 +73,7 @@ module _ (k : Job → List ℕ) (m : Job) where
       go true = f
       go false = g
 
-  least-found : (a : Option Job) → FollowsIfAny a → (js : List Job) → ((j : Job) → List·Memᴰ j js → Follows j) → List·Memᴰ m js → foldl (sooner k) a js ≡ some m
+  least-found : (a : Option Job) → FollowsIfAny a → (js : List Job) → IsFirst k m js → List·Memᴰ m js → foldl (sooner k) a js ≡ some m
   least-found a g [] h i = absurd (List·Memᴰ·not-nil i)
   least-found a g (x ∷ js) h i =
       go (least-found (sooner k a x) (follows-still a x g (h x (List·Memᴰ·head refl))) js (λ j n. h j (List·Memᴰ·tail n))) (List·Memᴰ·cases-cons i)
@@ -84,7 +84,7 @@ module _ (k : Job → List ℕ) (m : Job) where
       go later (inr n) = later n
 
   -- a job whose key is below that of every other is the first
-  least-key-first : (js : List Job) → ((j : Job) → List·Memᴰ j js → Follows j) → List·Memᴰ m js → first k js ≡ some m
+  least-key-first : (js : List Job) → IsFirst k m js → List·Memᴰ m js → first k js ≡ some m
   unfolding first
   least-key-first js h i = least-found none tt js h i
 
@@ -184,5 +184,6 @@ module _ (P : Plan) where
     stays = λ ls lt. hopeless-after ls js j m h lt .0;
     hopeless = λ ls lt. hopeless-after ls js j m h lt .1;
     unpaid = λ ls lt. let t = hopeless-after ls js j m h lt in hopeless-unpaid (jobsAfter P js ls) (jobAfter P js j ls) (t .0) (t .1);
+    falls = λ ls. left-after ls js j;
     leaves = λ ls le. gone-after ls js j (h .present) le;
   }

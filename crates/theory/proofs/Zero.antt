@@ -7,11 +7,11 @@ use Prim.Native.Nat.{ℕ, suc, _+_, _*_, _<_, _≤_}
 use native.Mathlib.Omega.{arith}
 use lib.Dec.{T}
 use lib.IntN.{ℤ, pos, natAbs, _-ℤ_}
-use lib.ListN.{length, getD}
+use lib.ListN.{length}
 use lib.Signed.{_≤ℤ_, leZ, leZ-yes}
 use Rattle.model.specs.Certificate.{Certificate}
 use Rattle.model.specs.Check.{gcd, potentialAt, least, allowance, share, verdict}
-use Rattle.model.specs.Graph.{start, nodes}
+use Rattle.model.specs.Graph.{nodes}
 use Rattle.model.specs.Plan.{Plan}
 use Rattle.model.specs.Schedule.{Schedule, admits, policyGain, scheduleGain}
 use Rattle.model.specs.Share.{KeptShare}
@@ -21,9 +21,10 @@ use Rattle.model.proofs.Tests.{holds}
 use Rattle.words.proofs.Signed.{≤ℤ-antisymm}
 use Rattle.theory.proofs.Accepted.{accepted-iff}
 use Rattle.theory.proofs.Costs.{cost-none}
+use Rattle.theory.proofs.Distances.{AllSmallest}
 use Rattle.theory.proofs.Gains.{fraction-fits}
 use Rattle.theory.proofs.Integers.{sub-mono}
-use Rattle.theory.proofs.Nodes.{first-node, number-at, start-in-nodes}
+use Rattle.theory.proofs.Nodes.{first-node, some-node}
 use Rattle.theory.proofs.Unique.{lowest-unique}
 
 -- of these only 0/1 is accepted
@@ -49,21 +50,18 @@ least-same (z ∷ zs) m h =
     go true e = ≤ℤ-antisymm (leZ-yes (holds e)) (h 0 (omega arith))
     go false e = refl
 
-module _ {P : Plan} (q : ℕ) (zs : List ℤ) (s : (i : ℕ) → i < length (nodes P) → Smallest P 0 q (getD (nodes P) i start) (potentialAt zs i)) where
+module _ (P : Plan) (q : ℕ) (zs : List ℤ) (s : AllSmallest P 0 q zs) where
   -- sums of the policy's gains are not below 0
   none-below : (i : ℕ) → i < length (nodes P) → pos 0 ≤ℤ potentialAt zs i
   none-below i lt =
       let r = s i lt .reached in
       subst (λ z. pos 0 ≤ℤ z) (r .2) (sub-mono {a = 0} {b = 0} {c = q * kept (r .0)} {d = 0 * ideal (r .0)} (omega arith) (omega arith))
 
-  some-node : 0 < length (nodes P)
-  some-node = omega (arith, number-at (nodes P) start start (start-in-nodes P) .0)
-
   -- and the start's is 0
   start-zero : potentialAt zs 0 ≡ pos 0
   start-zero =
-      let first = subst (λ v. Smallest P 0 q v (potentialAt zs 0)) (first-node P) (s 0 some-node) in
-      ≤ℤ-antisymm (subst (λ z. potentialAt zs 0 ≤ℤ z) (cost-none 0 q) (first .least [] here)) (none-below 0 some-node)
+      let first = subst (λ v. Smallest P 0 q v (potentialAt zs 0)) (first-node P) (s 0 (some-node P)) in
+      ≤ℤ-antisymm (subst (λ z. potentialAt zs 0 ≤ℤ z) (cost-none 0 q) (first .least [] here)) (none-below 0 (some-node P))
 
   -- so nothing has to be allowed
   no-allowance : length zs ≡ length (nodes P) → allowance zs ≡ 0
@@ -80,5 +78,5 @@ solved-zero {P} {c} s e =
     s .accepted ∙ ap (λ p. share p (c .q) (length (c .potentials)) (allowance (c .potentials))) e in
     let one : c .q ≡ 1 = zero-fraction P c zero-p in
     let none : allowance (c .potentials) ≡ 0 =
-    no-allowance (c .q) (c .potentials) (λ i lt. subst (λ p. Smallest P p (c .q) (getD (nodes P) i start) (potentialAt (c .potentials) i)) e (s .potentials i lt)) counted in
+    no-allowance P (c .q) (c .potentials) (subst (λ p. AllSmallest P p (c .q) (c .potentials)) e (s .potentials)) counted in
     zero-p ∙ (λ i. share 0 (one i) (counted i) (none i))
