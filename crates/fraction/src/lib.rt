@@ -2,13 +2,14 @@
 use node::Node;
 ghost use mathlib.Core.Path.{_≡_};
 ghost use Rattle.model.specs.Check as check-model;
+ghost use Rattle.model.specs.Thousandths as print-model;
 ghost use Rattle.fraction.specs.View.{permilleOf};
 
 const MAX_P: u32 = Node::MAX_P;
 
 const MAX_Q: u32 = Node::MAX_Q;
 
-// 1000 p / q rounded down, or none for 1/0.
+// 1000 p / q to the nearest, or none for 1/0.
 pub enum Permille {
     None,
     Some(u64),
@@ -44,12 +45,22 @@ pub fn fraction_ok(p: u32, q: u32) -> bool
     gcd(p, q) == 1
 }
 
-// The fraction in thousandths, rounded down.
+// The fraction in thousandths, to the nearest, an exact half to the even. p and q are any numbers of 32 bits, so 1000 p has 42 bits at most
+// and twice the rest 33. With an odd quotient the half itself goes up.
 pub fn thousandths(p: u32, q: u32) -> Permille
-    ensures { λ r. ⌜ permilleOf r ≡ check-model.thousandths p q ⌝ }
+    ensures { λ r. ⌜ permilleOf r ≡ print-model.thousandths p q ⌝ }
+    ensures { λ r. ⌜ print-model.Printed p q (permilleOf r) ⌝ }
 {
     if q == 0 {
         return Permille::None;
     }
-    Permille::Some(1000 * p as u64 / q as u64)
+    let n = 1000 * p as u64;
+    let d = q as u64;
+    let whole = n / d;
+    let rest = n % d;
+    if d < 2 * rest + whole % 2 {
+        let next = whole + 1;
+        return Permille::Some(next);
+    }
+    Permille::Some(whole)
 }

@@ -15,22 +15,25 @@ use Rattle.model.specs.Slot.{Done, slot, ready, first, key}
 use Rattle.model.specs.Masks.{masksOf}
 use Rattle.model.specs.Graph.{choices, edgeOf, edgesAt, edges, nodes, tooLarge}
 use Rattle.model.specs.Certificate.{Certificate, readCertificate, readPotentials, readSteps}
-use Rattle.model.specs.Check.{CheckAnswer, check, verdict, fractionOk, gcd, potentialsOk, cycleOk, follow, allowance, thousandths}
+use Rattle.model.specs.Check.{CheckAnswer, check, verdict, fractionOk, gcd, potentialsOk, cycleOk, follow, allowance}
+use Rattle.model.specs.Thousandths.{thousandths}
 use Rattle.model.specs.Passes.{beginning, relaxNode, pass, PassesTo, last, more}
 use Rattle.model.specs.Calls.{Writing, refuses, writes}
 use Rattle.model.specs.Trace.{trace, traceRun}
 
--- what goes in: the bytes of a plan with those of a certificate or with labels, or of a certificate alone
+-- what goes in: the bytes of a plan with those of a certificate or with labels, or of a certificate alone; p and q of a share
 pub data Input : Type 0 where
   checking : List ℕ → List ℕ → Input
   tracing : List ℕ → List ℕ → Input
   potentials : List ℕ → Input
+  printing : ℕ → ℕ → Input
 
--- what comes out: the numbers of the checked line; the task that ran and the gain of each slot; the potentials; a refusal
+-- what comes out: the numbers of the checked line; the task that ran and the gain of each slot; the potentials; m; a refusal
 pub data Output : Type 0 where
   line : (p q n k : ℕ) (m : Option ℕ) → Output
   slots : List (ℕ × ℕ) → Output
   signs : List ℤ → Output
+  prints : Option ℕ → Output
   refusal : ℕ → Output
 
 abbrev pub checked : CheckAnswer → Output
@@ -50,6 +53,7 @@ abbrev pub outcome : Input → Output
 outcome (checking plan certificate) = checked (check plan certificate workRoom)
 outcome (tracing plan labels) = traced (trace plan labels traceRoom)
 outcome (potentials certificate) = potentialsRead (readCertificate certificate)
+outcome (printing p q) = prints (thousandths p q)
 
 pub record Case : Type 0 where
   pub input : Input
@@ -95,7 +99,8 @@ withTask c d v = 0x01 ∷ c ∷ d ∷ v ∷ 0x02 ∷ 0x01 ∷ 0x03 ∷ 0x01 ∷ 
 abbrev pub fiveTasks : List ℕ
 fiveTasks = flatMap (λ i. 0x01 ∷ 0x01 ∷ 0x01 ∷ 0x01 ∷ []) (upFrom 1 4) ++ planD
 
--- "Case B with labels 3, 0 now runs task 1, then task 2, and gains 1, then 0; its fraction becomes 0/1 with m 0"
+-- "Case B with labels 3, 0 now runs task 1, then task 2, and gains 1, then 0; its fraction becomes 0/1 with m 0"; "1/16 prints 62 and 3/16
+-- prints 188", "`none` is kept for 1/0", and 1/3, of which the rest is 1 and no half of 3
 abbrev pub cases : List Case
 cases =
     (checking planA certificateA gives line 1 1 1 0 (some 1000))
@@ -105,6 +110,10 @@ cases =
     ∷ (checking planC certificateC gives line 1 0 2 1 none)
     ∷ (potentials certificateC gives signs (pos 0 ∷ negsuc 0 ∷ []))
     ∷ (checking planD certificateD gives line 1 0 1 0 none)
+    ∷ (printing 1 16 gives prints (some 62))
+    ∷ (printing 3 16 gives prints (some 188))
+    ∷ (printing 1 3 gives prints (some 333))
+    ∷ (printing 1 0 gives prints none)
     ∷ (checking [] [] gives refusal 1)
     ∷ (checking (withTask 1 9 1) [] gives refusal 4)
     ∷ (checking (withTask 1 1 0) [] gives refusal 4)

@@ -1,5 +1,5 @@
 -- What the checker asks of a certificate, and what it answers.
-use Prim.Native.Nat.{ℕ, zero, suc, _+_, _*_, _/_, _%_}
+use Prim.Native.Nat.{ℕ, zero, suc, _+_, _*_, _%_}
 use mathlib.Core.Bool.{Bool, true, false, cond, _&&_, _||_}
 use mathlib.Core.List.{List, [], _∷_, _++_}
 use mathlib.Core.Option.{Option, none, some}
@@ -107,11 +107,6 @@ least (z ∷ zs) m = least zs (cond (leZ z m) z m)
 -- "K is the start node's potential less the smallest."
 unfoldable pub allowance : List ℤ → ℕ
 allowance zs = natAbs (potentialAt zs 0 -ℤ least zs (potentialAt zs 0))
-
--- "m is 1000p/q rounded down, or `none` for 1/0"
-unfoldable pub thousandths : ℕ → ℕ → Option ℕ
-thousandths p zero = none
-thousandths p (suc q) = some (1000 * p / suc q)
 
 pub data CheckAnswer : Type 0 where
   refused : ℕ → CheckAnswer

@@ -12,6 +12,7 @@ pub mod Walk
 pub mod Share
 pub mod Certificate
 pub mod Check
+pub mod Thousandths
 pub mod Passes
 pub mod Solve
 pub mod Calls

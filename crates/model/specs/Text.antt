@@ -5,7 +5,8 @@ use mathlib.Core.List.{List, [], _∷_, _++_}
 use mathlib.Core.Option.{Option, none, some}
 use lib.Dec.{ltb}
 use Rattle.model.specs.Slot.{Done}
-use Rattle.model.specs.Check.{CheckAnswer, refused, share, thousandths}
+use Rattle.model.specs.Check.{CheckAnswer, refused, share}
+use Rattle.model.specs.Thousandths.{thousandths}
 use Rattle.model.specs.Plan.{Plan}
 use Rattle.model.specs.PlanBytes.{planBytes}
 use Rattle.model.specs.Calls.{Writing, refuses, writes}

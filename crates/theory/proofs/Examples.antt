@@ -20,7 +20,8 @@ use Rattle.model.specs.Graph.{Edge, choices, edgeOf, edgesAt, edges, nodes, too
 use Rattle.model.specs.Share.{KeptShare}
 use Rattle.model.specs.Walk.{here, go}
 use Rattle.model.specs.Certificate.{Certificate, certificateBytes, readCertificate, readPotentials, readSteps}
-use Rattle.model.specs.Check.{check, verdict, fractionOk, gcd, potentialsOk, cycleOk, follow, allowance, thousandths}
+use Rattle.model.specs.Check.{check, verdict, fractionOk, gcd, potentialsOk, cycleOk, follow, allowance}
+use Rattle.model.specs.Thousandths.{thousandths}
 use Rattle.model.specs.Solve.{Solved}
 use Rattle.model.specs.Text.{decimal, checkText}
 use Rattle.theory.proofs.Claim.{check-plan}

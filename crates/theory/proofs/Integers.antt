@@ -3,7 +3,7 @@
 use mathlib.Core.Path.{_≡_, refl, subst}
 use mathlib.Core.Bool.{false}
 use mathlib.Core.Logic.{_⊎_, inl, inr}
-use Prim.Native.Nat.{ℕ, _+_, _<_, _≤_}
+use Prim.Native.Nat.{ℕ, _+_, _-_, _<_, _≤_}
 use native.Mathlib.Decide.{decLe}
 use native.Mathlib.Omega.{arith}
 use lib.IntN.{ℤ, pos, negsuc, _+ℤ_, _-ℤ_, natAbs}
@@ -25,13 +25,17 @@ leZ-not a b e = by (decLe (up a + dn b) (up b + dn a))
     by (yes h) = absurd (fails e (leZ-iff a b .1 h))
     by (no h) = ≤ℤ-iff b a .1 (omega arith)
 
--- the size of a difference is at most the larger
-pub natAbs-sub-le : (a b limit : ℕ) → a ≤ limit → b ≤ limit → natAbs (pos a -ℤ pos b) ≤ limit
-natAbs-sub-le a b limit h k = by (up-or-dn (pos a -ℤ pos b))
+-- the size of a difference: what the larger is above the smaller
+pub natAbs-sub : (a b : ℕ) → natAbs (pos a -ℤ pos b) ≡ (a - b) + (b - a)
+natAbs-sub a b = by (up-or-dn (pos a -ℤ pos b))
   where
-    by : (up (pos a -ℤ pos b) ≡ 0) ⊎ (dn (pos a -ℤ pos b) ≡ 0) → natAbs (pos a -ℤ pos b) ≤ limit
+    by : (up (pos a -ℤ pos b) ≡ 0) ⊎ (dn (pos a -ℤ pos b) ≡ 0) → natAbs (pos a -ℤ pos b) ≡ (a - b) + (b - a)
     by (inl z) = omega (arith, natAbs-is (pos a -ℤ pos b), up-sub (pos a) (pos b))
     by (inr z) = omega (arith, natAbs-is (pos a -ℤ pos b), up-sub (pos a) (pos b))
+
+-- it is at most the larger
+pub natAbs-sub-le : (a b limit : ℕ) → a ≤ limit → b ≤ limit → natAbs (pos a -ℤ pos b) ≤ limit
+natAbs-sub-le a b limit h k = omega (arith, natAbs-sub a b)
 
 -- a is at most b, and so whatever b is at most, with the distance between them
 pub gap : (a b c : ℤ) → b ≤ℤ c → a ≤ℤ (c +ℤ pos (natAbs (a -ℤ b)))

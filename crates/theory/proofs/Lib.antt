@@ -36,6 +36,7 @@ pub mod Searched
 pub mod Settled
 pub mod Unique
 pub mod Zero
+pub mod Thousandths
 pub mod PlanRead
 pub mod PlanForm
 pub mod Automata

@@ -4,7 +4,7 @@ use mathlib.Core.List.{_++_}
 use Prim.Native.Nat.{ℕ, _^_, _≤_, _<_}
 use native.Mathlib.Omega.{arith}
 use lib.ListN.{length, length-append}
-use Rattle.model.specs.Check.{thousandths}
+use Rattle.model.specs.Thousandths.{thousandths}
 use Rattle.model.specs.Text.{field, thousandthsText, checkText}
 use Rattle.text.proofs.Decimal.{decimal-length, field-length, three-length}
 use Rattle.words.proofs.Put.{put-join}

@@ -33,7 +33,7 @@ same-length c = search needs
 returns : tie.Need-returns
 returns c =
     let put = c .before .before .put-bytes .ensures in
-    (put-as (ap thousandthsText (sym (ap permilleOf (c .before .before .before .before .before .enum-told .given .1)) ∙ c .before .before .before .before .before .before .before .thousandths .ensures)) put, omega (arith, put .next))
+    (put-as (ap thousandthsText (sym (ap permilleOf (c .before .before .before .before .before .enum-told .given .1)) ∙ c .before .before .before .before .before .before .before .thousandths .ensures .0)) put, omega (arith, put .next))
 
 same-length-2 : tie.Need-same-length-2
 same-length-2 c = search needs
@@ -42,7 +42,7 @@ returns-2 : tie.Need-returns-2
 returns-2 c =
     let put = c .before .before .put-number .ensures in
     let m = c .before .before .before .before .before .m .given in (
-      put-as (ap thousandthsText (sym (ap permilleOf (m .1)) ∙ c .before .before .before .before .before .before .before .thousandths .ensures)) put,
+      put-as (ap thousandthsText (sym (ap permilleOf (m .1)) ∙ c .before .before .before .before .before .before .before .thousandths .ensures .0)) put,
       omega (arith, put .next, decimal-length 19 (m .0 .0) (omega arith)),
     )
 
