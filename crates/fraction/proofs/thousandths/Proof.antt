@@ -7,6 +7,7 @@ use Prim.Native.Nat.{ℕ, zero, suc, _+_, _*_, _/_, _%_, _^_, _<_}
 use native.Mathlib.Nat.{mod-lt, div-le-self}
 use native.Mathlib.Omega.{arith}
 use lib.Dec.{ltb}
+use mir.Facts.{fits-le}
 use mir.Syntax.{w32, w64}
 use mir.Val.{Fits}
 use borrow.Author.Needs.{needs}
@@ -27,15 +28,12 @@ above-zero p (suc q) h up e =
 printed : (p q : ℕ) {m : Option ℕ} → m ≡ thousandths p q → (m ≡ thousandths p q) × Printed p q m
 printed p q e = (e, subst (Printed p q) (sym e) (thousandths-printed p q))
 
--- a rest is below q, so twice the rest fits, and with 1 more
-rest-low : (n q : ℕ) → (q ≡ 0 → ⊥) → Fits w32 q → n % q < 2 ^ 32
-rest-low n q h f = omega (arith, mod-lt n {m = q} (omega (arith, h)), f .fits)
+-- twice a rest fits, and with 1 more, since the rest is below q
+sum-fits : (n q b : ℕ) → (q ≡ 0 → ⊥) → Fits w32 q → b < 2 → Fits w64 (2 * (n % q) + b)
+sum-fits n q b h f l = record { fits = omega (arith, mod-lt n {m = q} (omega (arith, h)), f .fits) }
 
 twice-fits : (n q : ℕ) → (q ≡ 0 → ⊥) → Fits w32 q → Fits w64 (2 * (n % q))
-twice-fits n q h f = record { fits = omega (arith, rest-low n q h f) }
-
-sum-fits : (n q b : ℕ) → (q ≡ 0 → ⊥) → Fits w32 q → b < 2 → Fits w64 (2 * (n % q) + b)
-sum-fits n q b h f l = record { fits = omega (arith, rest-low n q h f) }
+twice-fits n q h f = fits-le (omega arith) (sum-fits n q 0 h f (omega arith))
 
 -- and so does a quotient, with 1 more
 next-fits : (n q b : ℕ) → n < 2 ^ 63 → b < 2 → Fits w64 (n / q + b)
