@@ -5,7 +5,7 @@
 
 #include "jovnetal.h"
 
-static const uint8_t plan[] = {1, 1, 1, 1, 1, 2, 2, 3, 2, 1, 3, 1, 4, 0, 0, 0, 4, 0, 1, 0, 4, 0, 2, 0, 4, 0, 3, 0, 5};
+static const uint8_t plan[] = {1, 1, 1, 0, 1, 1, 2, 2, 0, 3, 2, 1, 3, 1, 4, 0, 0, 0, 4, 0, 1, 0, 4, 0, 2, 0, 4, 0, 3, 0, 5};
 static const uint8_t labels[] = {2, 1, 0};
 static const uint8_t busy[] = {3, 0};
 static uint8_t work[JOVNETAL_WORK_ROOM];
@@ -35,8 +35,8 @@ static int all(const uint8_t *bytes, size_t length, uint8_t value) {
 int main(void) {
     static const uint8_t traced[] = {2, 0, 0, 1, 0, 1, 0, 0, 0};
     static const uint8_t in_vain[] = {1, 0, 1, 2, 0, 0};
-    static const uint8_t gap[] = {1, 1, 1, 1, 1, 2, 2, 3, 2, 1, 3, 2, 4, 0, 0, 0, 4, 0, 1, 1, 4, 0, 2, 0, 4, 0, 3, 1, 4, 1, 0, 0, 4, 1, 2, 0, 5};
-    static const uint8_t other[] = {1, 1, 1, 1, 2, 1, 3, 1, 5};
+    static const uint8_t gap[] = {1, 1, 1, 0, 1, 1, 2, 2, 0, 3, 2, 1, 3, 2, 4, 0, 0, 0, 4, 0, 1, 1, 4, 0, 2, 0, 4, 0, 3, 1, 4, 1, 0, 0, 4, 1, 2, 0, 5};
+    static const uint8_t other[] = {1, 1, 1, 0, 1, 2, 1, 3, 1, 5};
     uint64_t numbers[4] = {7, 7, 7, 7};
     uint64_t passes[1] = {7};
     uint64_t n;

@@ -2,7 +2,7 @@
 // node of every edge. The other, as the proved call does, looks up one node for each pattern that a label's choices leave.
 mod graph;
 mod plain;
-use graph::{discover, gcd, leads, outcomes, proved_certificate, read_plan, timed, Graph, Plan};
+use graph::{discover, gcd, leads, outcomes, proved_certificate, read_plan, timed, Graph, Plan, LARGEST};
 use plain::slot;
 use std::hint::black_box;
 
@@ -28,7 +28,7 @@ struct Certificate {
     q: u32,
     potentials: Vec<i64>,
     node: usize,
-    steps: Vec<(u8, [u8; 4])>,
+    steps: Vec<(u8, [u16; 4])>,
 }
 
 // The operands of a command, which is taken off the bytes.
@@ -56,8 +56,8 @@ fn read_certificate(mut bytes: &[u8]) -> Option<Certificate> {
     if q > 0 {
         node = u16::from_be_bytes(command(&mut bytes, 0x13)?) as usize;
         while bytes.first() == Some(&0x14) {
-            let [label, a, b, c, d] = command(&mut bytes, 0x14)?;
-            steps.push((label, [a, b, c, d]));
+            let [label, a1, a0, b1, b0, c1, c0, d1, d0] = command(&mut bytes, 0x14)?;
+            steps.push((label, [[a1, a0], [b1, b0], [c1, c0], [d1, d0]].map(u16::from_be_bytes)));
         }
         if !(1..=1024).contains(&steps.len()) {
             return None;
@@ -69,11 +69,11 @@ fn read_certificate(mut bytes: &[u8]) -> Option<Certificate> {
 // ---- the check
 
 fn fraction_ok(p: u32, q: u32) -> bool {
-    (p, q) == (1, 0) || gcd(p, q) == 1 && p <= 261_120 && (1..=1_044_480).contains(&q)
+    (p, q) == (1, 0) || gcd(p, q) == 1 && p <= 67_107_840 && (1..=268_431_360).contains(&q)
 }
 
 fn potentials_ok<const BEST: bool>(plan: &Plan, graph: &Graph, c: &Certificate) -> bool {
-    if c.potentials.iter().any(|z| z.unsigned_abs() > 1 << 40) {
+    if c.potentials.iter().any(|z| z.unsigned_abs() > 1 << 56) {
         return false;
     }
     let mut ok = true;
@@ -155,27 +155,29 @@ fn proved(plan: &[u8], certificate: &[u8], work: &mut [u8]) -> Answer {
 }
 
 fn main() {
-    let plan = [1, 1, 8, 5, 1, 2, 8, 7, 1, 2, 8, 11, 1, 2, 8, 13, 2, 4, 3, 1, 4, 0, 15, 0, 5];
-    let sound = read_plan(&plan);
-    let mut count = 0;
-    for node in &discover::<false>(&sound).unwrap().nodes {
-        for (label, _, _) in leads(&sound, node) {
-            outcomes::<false>(&sound, label, node.taken, &mut |_, _| count += 1);
-        }
-    }
+    let large = [1, 1, 8, 0, 5, 1, 2, 8, 0, 7, 1, 2, 8, 0, 11, 1, 2, 8, 0, 13, 2, 4, 3, 1, 4, 0, 15, 0, 5];
     let mut work = vec![0; 65536];
-    let (certificate, _) = proved_certificate(&plan, &mut work);
-    let [p, q, n, k] = proved(&plan, &certificate, &mut work).unwrap();
-    assert_eq!((n, count), (897, 583_571));
-    println!("{n} nodes, {count} edges, p/q {p}/{q}, K {k}");
-    for (what, bytes, answer) in [("discovery", &[][..], Err(6)), ("check", &certificate, Ok([p, q, n, k]))] {
-        let (mut ours, mut every, mut best) = (f64::MAX, f64::MAX, f64::MAX);
-        for _ in 0..10 {
-            assert_eq!(timed(&mut ours, || proved(black_box(&plan), black_box(bytes), &mut work)), answer);
-            assert_eq!(timed(&mut every, || check::<false>(black_box(&plan), black_box(bytes))), answer);
-            assert_eq!(timed(&mut best, || check::<true>(black_box(&plan), black_box(bytes))), answer);
+    for (plan, size) in [(&large[..], (897, 583_571)), (&LARGEST[..], (1024, 1_939_509))] {
+        let sound = read_plan(plan);
+        let mut count = 0;
+        for node in &discover::<false>(&sound).unwrap().nodes {
+            for (label, _, _) in leads(&sound, node) {
+                outcomes::<false>(&sound, label, node.taken, &mut |_, _| count += 1);
+            }
         }
-        println!("{what}: proved {ours:.1} ms, plain Rust {every:.1} ms, ratio {:.2}", ours / every);
-        println!("{what}: proved {ours:.1} ms, plain Rust with the best of each pattern {best:.1} ms, ratio {:.2}", ours / best);
+        let (certificate, _) = proved_certificate(plan, &mut work);
+        let [p, q, n, k] = proved(plan, &certificate, &mut work).unwrap();
+        assert_eq!((n, count), size);
+        println!("{n} nodes, {count} edges, p/q {p}/{q}, K {k}");
+        for (what, bytes, answer) in [("discovery", &[][..], Err(6)), ("check", &certificate, Ok([p, q, n, k]))] {
+            let (mut ours, mut every, mut best) = (f64::MAX, f64::MAX, f64::MAX);
+            for _ in 0..10 {
+                assert_eq!(timed(&mut ours, || proved(black_box(plan), black_box(bytes), &mut work)), answer);
+                assert_eq!(timed(&mut every, || check::<false>(black_box(plan), black_box(bytes))), answer);
+                assert_eq!(timed(&mut best, || check::<true>(black_box(plan), black_box(bytes))), answer);
+            }
+            println!("{what}: proved {ours:.1} ms, plain Rust {every:.1} ms, ratio {:.2}", ours / every);
+            println!("{what}: proved {ours:.1} ms, plain Rust with the best of each pattern {best:.1} ms, ratio {:.2}", ours / best);
+        }
     }
 }

@@ -8,7 +8,7 @@ extern "C" {
 }
 
 struct Plan {
-    tasks: Vec<[u8; 3]>,
+    tasks: Vec<[u8; 4]>,
     policy: u8,
     next: Vec<[Option<u8>; 16]>,
 }
@@ -20,12 +20,12 @@ fn read(bytes: &[u8]) -> Option<Plan> {
     loop {
         match *bytes.get(at)? {
             1 => {
-                let t: [u8; 3] = bytes.get(at + 1..at + 4)?.try_into().ok()?;
-                if t[0] < 1 || t[1] < t[0] || 8 < t[1] || t[2] < 1 {
+                let t: [u8; 4] = bytes.get(at + 1..at + 5)?.try_into().ok()?;
+                if t[0] < 1 || t[1] < t[0] || 10 < t[1] || t[2..] == [0, 0] {
                     return None;
                 }
                 plan.tasks.push(t);
-                at += 4;
+                at += 5;
             }
             2 => {
                 plan.policy = *bytes.get(at + 1)?;
@@ -74,8 +74,9 @@ fn combined(first: &[u8], second: &[u8]) -> Option<Vec<u8>> {
         k += 1;
     }
     let mut out = Vec::new();
-    for [c, d, v] in &p.tasks {
-        out.extend([1, *c, *d, *v]);
+    for task in &p.tasks {
+        out.push(1);
+        out.extend(task);
     }
     out.extend([2, p.policy, 3, pairs.len() as u8]);
     out.extend(arcs);
@@ -85,7 +86,7 @@ fn combined(first: &[u8], second: &[u8]) -> Option<Vec<u8>> {
 
 // Four tasks, and in each of so many states every label leads to the next state.
 fn ring(policy: u8, states: u8) -> Vec<u8> {
-    let mut plan = vec![1, 2, 8, 5, 1, 3, 8, 7, 1, 1, 8, 11, 1, 4, 8, 13, 2, policy, 3, states];
+    let mut plan = vec![1, 2, 8, 0, 5, 1, 3, 8, 0, 7, 1, 1, 8, 0, 11, 1, 4, 8, 0, 13, 2, policy, 3, states];
     for s in 0..states {
         for l in 0..16 {
             plan.extend([4, s, l, (s + 1) % states]);
@@ -105,7 +106,7 @@ fn timed<T>(best: &mut f64, run: impl FnOnce() -> T) -> T {
 fn main() {
     for (a, b) in [(16, 16), (16, 1), (5, 3), (1, 1)] {
         let (first, second) = (ring(1, a), ring(2, b));
-        let mut out = vec![0u8; 1045];
+        let mut out = vec![0u8; 1049];
         let (mut ours, mut theirs) = (f64::MAX, f64::MAX);
         for _ in 0..2000 {
             let (x, y) = (black_box(&first), black_box(&second));

@@ -7,7 +7,7 @@ use std::time::Instant;
 
 pub struct Plan {
     pub tasks: Vec<Task>,
-    pub masks: Vec<Vec<u8>>,
+    pub masks: Vec<Vec<u16>>,
     pub policy: u8,
     pub next: [[Option<u8>; 16]; 16],
 }
@@ -19,11 +19,11 @@ pub fn read_plan(bytes: &[u8]) -> Plan {
         let b = &bytes[at..];
         at += match b[0] {
             1 => {
-                let (work, window, value) = (b[1], b[2], b[3]);
-                let fits = |m: &u8| m.count_ones() == work as u32 && (*m as u32) < 1 << window;
-                plan.masks.push((1..=255).filter(fits).collect());
+                let (work, window, value) = (b[1], b[2], u16::from_be_bytes([b[3], b[4]]));
+                let fits = |m: &u16| m.count_ones() == work as u32 && *m < 1 << window;
+                plan.masks.push((1..1024).filter(fits).collect());
                 plan.tasks.push(Task { work, window, value });
-                4
+                5
             }
             2 => {
                 plan.policy = b[1];
@@ -45,7 +45,7 @@ pub fn read_plan(bytes: &[u8]) -> Plan {
 #[derive(Clone, PartialEq, Eq, Hash)]
 pub struct Node {
     pub jobs: Vec<Job>,
-    pub taken: u8,
+    pub taken: u16,
     pub state: u8,
 }
 
@@ -63,8 +63,8 @@ pub fn leads<'a>(plan: &'a Plan, node: &'a Node) -> impl Iterator<Item = (u8, No
 #[derive(Clone, Copy, PartialEq, Eq, PartialOrd, Ord)]
 pub struct Choice {
     pub gain: u32,
-    pub taken: u8,
-    pub masks: [u8; 4],
+    pub taken: u16,
+    pub masks: [u16; 4],
 }
 
 // Every choice for the tasks from i on, in order.
@@ -86,12 +86,12 @@ pub fn choices(plan: &Plan, label: u8, i: usize, c: Choice, each: &mut impl FnMu
 
 // The patterns that a label's choices leave, with their gains: for every choice, or with BEST once for each pattern, with its
 // largest gain.
-pub fn outcomes<const BEST: bool>(plan: &Plan, label: u8, taken: u8, each: &mut impl FnMut(u8, u32)) {
+pub fn outcomes<const BEST: bool>(plan: &Plan, label: u8, taken: u16, each: &mut impl FnMut(u16, u32)) {
     let none = Choice { gain: 0, taken, masks: [0; 4] };
     if !BEST {
         return choices(plan, label, 0, none, &mut |c| each(c.taken >> 1, c.gain));
     }
-    let mut best = [None; 128];
+    let mut best = [None; 512];
     let mut order = vec![];
     choices(plan, label, 0, none, &mut |c| {
         let b = &mut best[c.taken as usize >> 1];
@@ -136,6 +136,12 @@ pub fn discover<const BEST: bool>(plan: &Plan) -> Option<Graph> {
 
 // ---- shared
 
+// The largest long-read plan known: four tasks with C 2 and D 10 under EDF. All four are released in two slots or in none, so that its 1,024
+// nodes have 1,939,509 edges.
+pub const LARGEST: [u8; 37] = [
+    1, 2, 10, 255, 255, 1, 2, 10, 200, 7, 1, 2, 10, 150, 11, 1, 2, 10, 0, 13, 2, 1, 3, 3, 4, 0, 0, 0, 4, 0, 15, 1, 4, 1, 15, 2, 5,
+];
+
 pub fn gcd(a: u32, b: u32) -> u32 {
     if b == 0 { a } else { gcd(b, a % b) }
 }
@@ -146,7 +152,7 @@ extern "C" {
 
 // The certificate that the proved solver writes, and the number of passes for its fraction.
 pub fn proved_certificate(plan: &[u8], work: &mut [u8]) -> (Vec<u8>, u64) {
-    let mut out = vec![0; 15375];
+    let mut out = vec![0; 19471];
     let mut passes = 0;
     let n = unsafe { jovnetal_solve(plan.as_ptr(), plan.len(), work.as_mut_ptr(), work.len(), out.as_mut_ptr(), out.len(), &mut passes) };
     out.truncate(n as usize);

@@ -18,7 +18,7 @@ impl Hash for Job {
 pub struct Task {
     pub work: u8,
     pub window: u8,
-    pub value: u8,
+    pub value: u16,
 }
 
 // One slot by the rules, with the jobs in release order: the task that ran, 0 for none, and the gain.
@@ -31,7 +31,7 @@ pub fn slot(tasks: &[Task], policy: u8, jobs: &mut Vec<Job>, label: u8) -> (u8, 
     let key = |j: &Job| match policy {
         1 => (j.left as usize, j.task, 0),
         2 => (j.work as usize, j.task, j.left as usize),
-        3 => (8 + j.left as usize - tasks[j.task - 1].window as usize, j.task, 0),
+        3 => (10 + j.left as usize - tasks[j.task - 1].window as usize, j.task, 0),
         _ => (j.task, j.left as usize, 0),
     };
     let first = (0..jobs.len()).min_by_key(|&k| key(&jobs[k]));
@@ -41,7 +41,7 @@ pub fn slot(tasks: &[Task], policy: u8, jobs: &mut Vec<Job>, label: u8) -> (u8, 
         jobs[k].work -= 1;
         ran = jobs[k].task as u8;
         if jobs[k].work == 0 {
-            gain = tasks[jobs[k].task - 1].value as u16;
+            gain = tasks[jobs[k].task - 1].value;
         }
     }
     for j in jobs.iter_mut() {

@@ -2,7 +2,7 @@
 // call does, finds the edges of a node anew whenever it tries them. The other finds all edges once and keeps them.
 mod graph;
 mod plain;
-use graph::{choices, discover, gcd, leads, outcomes, proved_certificate, read_plan, timed, Choice, Graph, Plan};
+use graph::{choices, discover, gcd, leads, outcomes, proved_certificate, read_plan, timed, Choice, Graph, Plan, LARGEST};
 use std::borrow::Cow;
 use std::hint::black_box;
 
@@ -80,7 +80,7 @@ fn settle<'a>(n: usize, p: u32, q: u32, edges: &impl Fn(usize) -> Cow<'a, [Edge]
 }
 
 // The first masks of the edge's label that leave its node's pattern with its gain.
-fn masks(plan: &Plan, graph: &Graph, from: usize, edge: &Edge) -> [u8; 4] {
+fn masks(plan: &Plan, graph: &Graph, from: usize, edge: &Edge) -> [u16; 4] {
     let mut found = None;
     choices(plan, edge.label, 0, Choice { gain: 0, taken: graph.nodes[from].taken, masks: [0; 4] }, &mut |c| {
         if found.is_none() && c.taken >> 1 == graph.nodes[edge.to].taken && c.gain == edge.ideal {
@@ -124,20 +124,20 @@ fn solve<const KEEP: bool>(plan: &[u8]) -> ((Vec<u8>, u64), usize) {
     }
     for (u, edge) in &steps {
         out.extend([0x14, edge.label]);
-        out.extend(masks(&plan, &graph, *u, edge));
+        out.extend(masks(&plan, &graph, *u, edge).map(u16::to_be_bytes).concat());
     }
     out.push(0x15);
     ((out, passes), fractions)
 }
 
 fn main() {
-    let large = [1, 1, 8, 5, 1, 2, 8, 7, 1, 2, 8, 11, 1, 2, 8, 13, 2, 4, 3, 1, 4, 0, 15, 0, 5];
+    let large = [1, 1, 8, 0, 5, 1, 2, 8, 0, 7, 1, 2, 8, 0, 11, 1, 2, 8, 0, 13, 2, 4, 3, 1, 4, 0, 15, 0, 5];
     let falling = [
-        1, 1, 4, 215, 1, 3, 5, 231, 2, 4, 3, 2, 4, 0, 0, 1, 4, 0, 1, 0, 4, 0, 2, 0, 4, 0, 3, 0, 4, 1, 0, 0, 4, 1, 1, 0, 4, 1, 2, 1, 4, 1,
-        3, 1, 5,
+        1, 1, 4, 0, 215, 1, 3, 5, 0, 231, 2, 4, 3, 2, 4, 0, 0, 1, 4, 0, 1, 0, 4, 0, 2, 0, 4, 0, 3, 0, 4, 1, 0, 0, 4, 1, 1, 0, 4, 1, 2, 1,
+        4, 1, 3, 1, 5,
     ];
     let mut work = vec![0; 65536];
-    for plan in [&large[..], &falling[..]] {
+    for plan in [&large[..], &falling[..], &LARGEST[..]] {
         let (solved, fractions) = solve::<true>(plan);
         let (certificate, passes) = &solved;
         let [p, q] = [1, 5].map(|at| u32::from_be_bytes(certificate[at..at + 4].try_into().unwrap()));

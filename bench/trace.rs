@@ -33,7 +33,8 @@ fn main() {
     for policy in 1..=4u8 {
         let mut plan = Vec::new();
         for t in &tasks {
-            plan.extend([1, t.work, t.window, t.value]);
+            plan.extend([1, t.work, t.window]);
+            plan.extend(t.value.to_be_bytes());
         }
         plan.extend([2, policy, 3, 1, 4, 0, 15, 0, 5]);
         let mut a = vec![0u8; 12288];

@@ -16,9 +16,9 @@ extern "C" {
 
 /* The least bytes to lend: work memory, and the output of a certificate, of a trace and of a plan. With fewer the refusal is 11. */
 #define JOVNETAL_WORK_ROOM 65536
-#define JOVNETAL_CERTIFICATE_ROOM 15375
+#define JOVNETAL_CERTIFICATE_ROOM 19471
 #define JOVNETAL_TRACE_ROOM 12288
-#define JOVNETAL_PLAN_ROOM 1045
+#define JOVNETAL_PLAN_ROOM 1049
 
 /* A call that writes bytes answers their number, or the number of the refusal and this. */
 #define JOVNETAL_REFUSED 65536

@@ -16,6 +16,8 @@ const COMBINE: u8 = 6;
 
 const PASSES: u8 = 7;
 
+const CALL: u8 = 8;
+
 fn main() {
     let mut count = [0u8; 2];
     let file = os::open_read(b"cases.bin");
@@ -45,6 +47,9 @@ fn main() {
             }
             PASSES => {
                 certificate_cases::passes::passes_case(file);
+            }
+            CALL => {
+                certificate_cases::calls::call_case(file);
             }
             _ => {
                 io::write_all(STDOUT_FILENO, b"unknown kind\n");

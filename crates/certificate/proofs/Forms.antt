@@ -11,8 +11,9 @@ use lib.Dec.{leb, ltb, eqb}
 use lib.ListN.{length, take, drop}
 use lib.Seq.{drop-drop}
 use Rattle.model.specs.Limits.{maxNodes, maxSteps}
+use Rattle.model.specs.Edition.{longReads}
 use Rattle.model.specs.Bytes.{number}
-use Rattle.model.specs.Certificate.{Certificate, has, readPotentials, readSteps, isEnd, withSteps, withPotentials, readCertificate}
+use Rattle.model.specs.Certificate.{Certificate, has, readPotentials, readSteps, isEnd, withSteps, withPotentials, readCertificateIn, readCertificate}
 use Rattle.certificate.specs.declared.Cursor.{Cursor}
 use Rattle.certificate.specs.declared.Parts.{Parts}
 use Rattle.certificate.specs.declared.Form.the-variants.{Fault, Read}
@@ -32,10 +33,10 @@ module _ (bs : List ℕ) (p q n at : ℕ) where
   pub cycle-missing : has (drop at bs) nodeCommand cycleSize ≡ false → none ≡ cycleFrom bs p q n at
   cycle-missing e =
       sym
-      (λ i. cond (e i) (withSteps p q (potentialsIn bs n) (cycleNodeIn (drop at bs) 0) (readSteps maxSteps (drop cycleSize (drop at bs)))) none)
+      (λ i. cond (e i) (withSteps p q (potentialsIn bs n) (cycleNodeIn (drop at bs) 0) (readSteps longReads maxSteps (drop cycleSize (drop at bs)))) none)
 
   module _ (here : has (drop at bs) nodeCommand cycleSize ≡ true) (from : ℕ) (place : from ≡ at + cycleSize) (r : Run)
-      (read : runOf bs (stepIn bs) from stepSize r ≡ readSteps maxSteps (drop from bs)) where
+      (read : runOf bs (stepIn bs) from stepSize r ≡ readSteps longReads maxSteps (drop from bs)) where
     -- with a cycle of m steps from the node v
     abbrev withCycle : ℕ → ℕ → Certificate
     withCycle v m = record { p = p; q = q; potentials = potentialsIn bs n; node = v; steps = stepsIn bs from m }
@@ -43,8 +44,8 @@ module _ (bs : List ℕ) (p q n at : ℕ) where
     -- by the run of steps
     by-steps : {u : Run} → r ≡ u → cycleFrom bs p q n at ≡ withSteps p q (potentialsIn bs n) (cycleNodeIn bs at) (runOf bs (stepIn bs) from stepSize u)
     by-steps k =
-        (λ i. cond (here i) (withSteps p q (potentialsIn bs n) (number (take 2 (drop-drop 1 at bs i))) (readSteps maxSteps (drop-drop cycleSize at bs i))) none)
-        ∙ ap (λ (m : ℕ). withSteps p q (potentialsIn bs n) (cycleNodeIn bs at) (readSteps maxSteps (drop m bs))) (sym place)
+        (λ i. cond (here i) (withSteps p q (potentialsIn bs n) (number (take 2 (drop-drop 1 at bs i))) (readSteps longReads maxSteps (drop-drop cycleSize at bs i))) none)
+        ∙ ap (λ (m : ℕ). withSteps p q (potentialsIn bs n) (cycleNodeIn bs at) (readSteps longReads maxSteps (drop m bs))) (sym place)
         ∙ ap (withSteps p q (potentialsIn bs n) (cycleNodeIn bs at)) (sym read ∙ ap (runOf bs (stepIn bs) from stepSize) k)
 
     pub cycle-fault : r ≡ run.Fault → none ≡ cycleFrom bs p q n at
@@ -85,10 +86,10 @@ module _ (bs : List ℕ) where
   -- by the head's tests
   by-head : {a b c : Bool} → has bs headCommand headSize ≡ a → leb 1 (potentialCountIn bs) ≡ b → leb (potentialCountIn bs) maxNodes ≡ c →
       readCertificate bs ≡ cond (a && b && c)
-      (withPotentials (pIn bs) (qIn bs) (readPotentials (potentialCountIn bs) (drop headSize bs))) none
-  unfolding readCertificate
+      (withPotentials longReads (pIn bs) (qIn bs) (readPotentials (potentialCountIn bs) (drop headSize bs))) none
+  unfolding readCertificateIn
   by-head e f g =
-      λ i. cond (e i && f i && g i) (withPotentials (pIn bs) (qIn bs) (readPotentials (potentialCountIn bs) (drop headSize bs))) none
+      λ i. cond (e i && f i && g i) (withPotentials longReads (pIn bs) (qIn bs) (readPotentials (potentialCountIn bs) (drop headSize bs))) none
 
   pub head-missing : has bs headCommand headSize ≡ false → none ≡ readCertificate bs
   head-missing e = sym (by-head e refl refl)
@@ -103,11 +104,11 @@ module _ (bs : List ℕ) where
     module _ (low : 1 ≤ n) (high : n ≤ maxNodes) (p q : ℕ) (isP : p ≡ pIn bs) (isQ : q ≡ qIn bs) (r : Run)
         (read : runOf bs (potentialIn bs) headSize potentialSize r ≡ readPotentials n (drop headSize bs)) where
       -- by the run of potentials
-      by-potentials : {u : Run} → r ≡ u → readCertificate bs ≡ withPotentials p q (runOf bs (potentialIn bs) headSize potentialSize u)
+      by-potentials : {u : Run} → r ≡ u → readCertificate bs ≡ withPotentials longReads p q (runOf bs (potentialIn bs) headSize potentialSize u)
       by-potentials k =
           by-head here (ap (leb 1) (sym isN) ∙ le-leb 1 n low) (ap (λ (m : ℕ). leb m maxNodes) (sym isN) ∙ le-leb n maxNodes high)
-          ∙ sym (λ i. withPotentials (isP i) (isQ i) (readPotentials (isN i) (drop headSize bs)))
-          ∙ ap (withPotentials p q) (sym read ∙ ap (runOf bs (potentialIn bs) headSize potentialSize) k)
+          ∙ sym (λ i. withPotentials longReads (isP i) (isQ i) (readPotentials (isN i) (drop headSize bs)))
+          ∙ ap (withPotentials longReads p q) (sym read ∙ ap (runOf bs (potentialIn bs) headSize potentialSize) k)
 
       pub potentials-fault : r ≡ run.Fault → none ≡ readCertificate bs
       potentials-fault k = sym (by-potentials k)

@@ -12,17 +12,22 @@ use native.Mathlib.Omega.{arith}
 use borrow.Author.Tests.{leb-true}
 use lib.Dec.{leb, ltb, eqb}
 use lib.IntN.{ℤ, pos}
-use lib.ListN.{length, getD, take, drop, length-take, length-drop}
+use lib.ListN.{length, getD, take, drop, length-drop}
 use lib.Seq.{drop-drop, getD-drop, ext-getD}
 use Rattle.model.specs.Limits.{maxNodes, maxSteps}
-use Rattle.model.specs.Bytes.{part}
-use Rattle.model.specs.Certificate.{Certificate, Step, Parsed, consParsed, has, readPotentials, readSteps, isEnd, withSteps, withPotentials, readCertificate}
+use Rattle.model.specs.Edition.{longReads}
+use Rattle.model.specs.Bytes.{number, part}
+use Rattle.model.specs.Certificate.{Certificate, Step, Parsed, consParsed, has, readPotentials, masksAt, readSteps, isEnd, withSteps, withPotentials, readCertificateIn, readCertificate}
 use Rattle.model.specs.Check.{potentialAt}
 use Rattle.model.proofs.Plan.{both}
-use Rattle.words.proofs.Memory.{part-length}
-use Rattle.theory.proofs.Reread.{cond-some, cons-some}
+use Rattle.words.specs.Packed.{packed, unpacked}
+use Rattle.words.proofs.Numbers.{AreBytes}
+use Rattle.words.proofs.Packed.{unpacked-packed}
+use Rattle.words.proofs.Words.{drop-bytes}
+use Rattle.theory.proofs.Reread.{cond-some, cons-some, masks-fit, masks-part}
 use Rattle.certificate.specs.declared.Parts.{Parts}
 use Rattle.certificate.specs.declared.Form.{Form}
+use Rattle.certificate.specs.declared.Form.the-variants.{Fault, Read}
 use Rattle.certificate.specs.View.{headCommand, stepCommand, potentialCommand, nodeCommand, masksWidth, headSize, potentialSize, cycleSize, stepSize, potentialIn, stepIn, pIn, qIn, potentialCountIn, cycleNodeIn, items, potentialsIn, stepsIn, certificateOf, formOf, stepsPlace, partsOf, inPlace, IsRead, HasPotential, stepAt}
 use Rattle.certificate.proofs.Runs.{Reached, reached-start, reached-next, reached-all, reached-fault, has-room, potential-next, potential-fault, items-length, items-at}
 
@@ -57,13 +62,13 @@ module _ (bs : List ℕ) (from n : ℕ) (fits : from ≤ length bs) (r : Parsed 
 -- ---- the steps
 
 -- none, or a first one and the others
-first-step : (n : ℕ) (l : List ℕ) (r : Parsed (List Step)) → readSteps (suc n) l ≡ some r →
-    (r .value ≡ []) ⊎ ((t : Parsed (List Step)) × (readSteps n (drop stepSize l) ≡ some t) × (stepSize ≤ length l) × (r .value ≡ stepIn l 0 ∷ t .value))
+first-step : (n : ℕ) (l : List ℕ) (r : Parsed (List Step)) → readSteps longReads (suc n) l ≡ some r →
+    (r .value ≡ []) ⊎ ((t : Parsed (List Step)) × (readSteps longReads n (drop stepSize l) ≡ some t) × (stepSize ≤ length l) × (r .value ≡ stepIn l 0 ∷ t .value))
 unfolding readSteps
 first-step n l r e = by (eqb (getD l 0 0) stepCommand) e
   where
     more : Option (Parsed (List Step))
-    more = readSteps n (drop stepSize l)
+    more = readSteps longReads n (drop stepSize l)
 
     by : (b : Bool) → cond b (cond (leb stepSize (length l)) (consParsed (stepIn l 0) more) none) (some (record { value = []; rest = l })) ≡ some r →
         (r .value ≡ []) ⊎ ((t : Parsed (List Step)) × (more ≡ some t) × (stepSize ≤ length l) × (r .value ≡ stepIn l 0 ∷ t .value))
@@ -76,13 +81,12 @@ first-step n l r e = by (eqb (getD l 0 0) stepCommand) e
 -- a step further on
 step-further : (l : List ℕ) (m at : ℕ) → stepIn (drop m l) at ≡ stepIn l (m + at)
 step-further l m at =
-    let one : m + (at + 1) ≡ m + at + 1 = omega arith in
-    let two : m + (at + 2) ≡ m + at + 2 = omega arith in
-    (λ i. record { label = getD-drop m l (at + 1) 0 i; masks = take masksWidth (drop-drop (at + 2) m l i) })
-    ∙ (λ i. record { label = getD l (one i) 0; masks = part l (two i) masksWidth })
+    let next : m + (at + 1) ≡ m + at + 1 = omega arith in
+    (λ i. record { label = getD-drop m l (at + 1) 0 i; masks = masksAt longReads (drop-drop at m l i) })
+    ∙ ap (λ (k : ℕ). record { label = getD l k 0; masks = masksAt longReads (drop (m + at) l) }) next
 
 -- each stands within the bytes, and is the one in place
-steps-placed : (n : ℕ) (l : List ℕ) (r : Parsed (List Step)) → readSteps n l ≡ some r → (j : ℕ) → j < length (r .value) →
+steps-placed : (n : ℕ) (l : List ℕ) (r : Parsed (List Step)) → readSteps longReads n l ≡ some r → (j : ℕ) → j < length (r .value) →
     (stepSize * j + stepSize ≤ length l) × (stepAt (r .value) j ≡ stepIn l (stepSize * j))
 unfolding readSteps
 steps-placed zero l r e j h = absurd (not-suc-le-zero (subst (λ s. j < length (s .value)) (sym (Option·some-injective _ _ e)) h))
@@ -101,7 +105,7 @@ steps-placed (suc n) l r e j h =
         (omega (arith, w .0, length-drop stepSize l), w .1 ∙ step-further l stepSize (stepSize * k) ∙ ap (stepIn l) (omega arith))
 
 -- they are no more than asked for
-steps-few : (n : ℕ) (l : List ℕ) (r : Parsed (List Step)) → readSteps n l ≡ some r → length (r .value) ≤ n
+steps-few : (n : ℕ) (l : List ℕ) (r : Parsed (List Step)) → readSteps longReads n l ≡ some r → length (r .value) ≤ n
 unfolding readSteps
 steps-few zero l r e = omega (arith, ap (λ s. length (s .value)) (Option·some-injective _ _ e))
 steps-few (suc n) l r e =
@@ -109,7 +113,7 @@ steps-few (suc n) l r e =
 
 -- ---- the certificate
 
--- the counts are within their limits, the potentials and the steps are those in place, and the steps have all their masks
+-- the counts are within their limits, and the potentials and the steps are those in place, within the bytes
 pub record Placed (bs : List ℕ) (c : Certificate) : Type 0 where
   pub some : 1 ≤ length (c .potentials)
   pub few : length (c .potentials) ≤ maxNodes
@@ -117,7 +121,7 @@ pub record Placed (bs : List ℕ) (c : Certificate) : Type 0 where
   pub inside : headSize + potentialSize * length (c .potentials) ≤ length bs
   pub potentials : c .potentials ≡ potentialsIn bs (length (c .potentials))
   pub steps : c .steps ≡ stepsIn bs (stepsPlace c) (length (c .steps))
-  pub full : (j : ℕ) → j < length (c .steps) → length (stepAt (c .steps) j .masks) ≡ masksWidth
+  pub stepInside : (j : ℕ) → j < length (c .steps) → stepsPlace c + stepSize * j + stepSize ≤ length bs
 
 -- the same of the potentials alone, and of the steps alone
 record PlacedPotentials (bs : List ℕ) (zs : List ℤ) : Type 0 where
@@ -129,15 +133,15 @@ record PlacedPotentials (bs : List ℕ) (zs : List ℤ) : Type 0 where
 record PlacedSteps (bs : List ℕ) (from : ℕ) (ss : List Step) : Type 0 where
   few : length ss ≤ maxSteps
   steps : ss ≡ stepsIn bs from (length ss)
-  full : (j : ℕ) → j < length ss → length (stepAt ss j .masks) ≡ masksWidth
+  inside : (j : ℕ) → j < length ss → from + stepSize * j + stepSize ≤ length bs
 
-steps-read : (bs : List ℕ) (from : ℕ) (r : Parsed (List Step)) → readSteps maxSteps (drop from bs) ≡ some r → PlacedSteps bs from (r .value)
+steps-read : (bs : List ℕ) (from : ℕ) (r : Parsed (List Step)) → readSteps longReads maxSteps (drop from bs) ≡ some r → PlacedSteps bs from (r .value)
 steps-read bs from r e = record {
   few = steps-few maxSteps (drop from bs) r e;
   steps =
       ext-getD (record { label = 0; masks = [] }) (r .value) (stepsIn bs from n) (sym (items-length (stepIn bs) from stepSize n))
       (λ j h. each j h .1 ∙ step-further bs from (stepSize * j) ∙ sym (items-at (stepIn bs) from stepSize n j (record { label = 0; masks = [] }) h));
-  full = λ j h. ap (λ s. length (s .masks)) (each j h .1) ∙ part-length (drop from bs) (stepSize * j + 2) masksWidth (omega (arith, each j h .0));
+  inside = λ j h. omega (arith, each j h .0, length-drop from bs);
 }
   where
     n : ℕ
@@ -153,9 +157,9 @@ module _ (bs : List ℕ) (p q : ℕ) (zs : List ℤ) (h : PlacedPotentials bs zs
 
   with-steps : (v : ℕ) (ss : List Step) → PlacedSteps bs (place (eqb q 0)) ss → Placed bs (record { p = p; q = q; potentials = zs; node = v; steps = ss })
   with-steps v ss w =
-      record { some = h .some; few = h .few; fewSteps = w .few; inside = h .inside; potentials = h .potentials; steps = w .steps; full = w .full }
+      record { some = h .some; few = h .few; fewSteps = w .few; inside = h .inside; potentials = h .potentials; steps = w .steps; stepInside = w .inside }
 
-  placed-steps : (c : Certificate) (v : ℕ) (o : Option (Parsed (List Step))) → readSteps maxSteps (drop (place (eqb q 0)) bs) ≡ o →
+  placed-steps : (c : Certificate) (v : ℕ) (o : Option (Parsed (List Step))) → readSteps longReads maxSteps (drop (place (eqb q 0)) bs) ≡ o →
       withSteps p q zs v o ≡ some c → Placed bs c
   placed-steps c v none e f = absurd (Option·none-ne-some c f)
   placed-steps c v (some r) e f =
@@ -163,7 +167,7 @@ module _ (bs : List ℕ) (p q : ℕ) (zs : List ℤ) (h : PlacedPotentials bs zs
       (with-steps v (r .value) (steps-read bs (place (eqb q 0)) r e))
 
   placed-rest : (c : Certificate) (rest : List ℕ) → rest ≡ drop (headSize + potentialSize * length zs) bs →
-      withPotentials p q (some (record { value = zs; rest = rest })) ≡ some c → Placed bs c
+      withPotentials longReads p q (some (record { value = zs; rest = rest })) ≡ some c → Placed bs c
   unfolding items
   placed-rest c rest after f = by (eqb q 0) refl f
     where
@@ -171,7 +175,7 @@ module _ (bs : List ℕ) (p q : ℕ) (zs : List ℤ) (h : PlacedPotentials bs zs
       bare = record { p = p; q = q; potentials = zs; node = 0; steps = [] }
 
       full : Option Certificate
-      full = withSteps p q zs (cycleNodeIn rest 0) (readSteps maxSteps (drop cycleSize rest))
+      full = withSteps p q zs (cycleNodeIn rest 0) (readSteps longReads maxSteps (drop cycleSize rest))
 
       further : eqb q 0 ≡ false → drop (place (eqb q 0)) bs ≡ drop cycleSize rest
       further e = ap (λ b. drop (place b) bs) e ∙ sym (ap (drop cycleSize) after ∙ drop-drop cycleSize (headSize + potentialSize * length zs) bs)
@@ -179,22 +183,22 @@ module _ (bs : List ℕ) (p q : ℕ) (zs : List ℤ) (h : PlacedPotentials bs zs
       by : (b : Bool) → eqb q 0 ≡ b → cond b (cond (isEnd rest) (some bare) none) (cond (has rest nodeCommand cycleSize) full none) ≡ some c → Placed bs c
       by true e k =
           subst (Placed bs) (Option·some-injective _ _ (cond-some (isEnd rest) (some bare) k .1))
-          (with-steps 0 [] (record { few = omega arith; steps = refl; full = λ j h. absurd (not-suc-le-zero h) }))
+          (with-steps 0 [] (record { few = omega arith; steps = refl; inside = λ j h. absurd (not-suc-le-zero h) }))
       by false e k =
-          placed-steps c (cycleNodeIn rest 0) (readSteps maxSteps (drop cycleSize rest)) (ap (readSteps maxSteps) (further e))
+          placed-steps c (cycleNodeIn rest 0) (readSteps longReads maxSteps (drop cycleSize rest)) (ap (readSteps longReads maxSteps) (further e))
           (cond-some (has rest nodeCommand cycleSize) full k .1)
 
 pub placed : (bs : List ℕ) (c : Certificate) → readCertificate bs ≡ some c → Placed bs c
-unfolding readCertificate
+unfolding readCertificateIn
 placed bs c e =
     let n = potentialCountIn bs in
-    let three = cond-some (has bs headCommand headSize && leb 1 n && leb n maxNodes) (withPotentials (pIn bs) (qIn bs) (readPotentials n (drop headSize bs))) e in
+    let three = cond-some (has bs headCommand headSize && leb 1 n && leb n maxNodes) (withPotentials longReads (pIn bs) (qIn bs) (readPotentials n (drop headSize bs))) e in
     let two = both (has bs headCommand headSize && leb 1 n) (leb n maxNodes) (three .0) in
     let one = both (has bs headCommand headSize) (leb 1 n) (two .0) in
     by (has-room bs 0 headCommand headSize (omega arith) (one .0)) (leb-true 1 n (one .1)) (leb-true n maxNodes (two .1)) (readPotentials n (drop headSize bs)) refl (three .1)
   where
     by : 0 + headSize ≤ length bs → 1 ≤ potentialCountIn bs → potentialCountIn bs ≤ maxNodes → (o : Option (Parsed (List ℤ))) → readPotentials (potentialCountIn bs) (drop headSize bs) ≡ o →
-        withPotentials (pIn bs) (qIn bs) o ≡ some c → Placed bs c
+        withPotentials longReads (pIn bs) (qIn bs) o ≡ some c → Placed bs c
     by room low high none k f = absurd (Option·none-ne-some c f)
     by room low high (some r) k f =
         let w = potentials-placed bs headSize (potentialCountIn bs) (omega arith) r k in
@@ -219,6 +223,13 @@ read-as bs {f} {g} e k = by (readCertificate bs) refl ∙ ap (formOf bs) (sym e 
     by none r = r ∙ ap (λ o. formOf bs (inPlace o)) (sym r)
     by (some c) r = r ∙ ap some (sym (certificate-placed bs c r)) ∙ ap (λ o. formOf bs (inPlace o)) (sym r)
 
+abbrev placeIn : Form → ℕ
+placeIn Fault = 0
+placeIn (Read c) = c .from
+
+pub is-read : (bs : List ℕ) {f : Form} {c : Parts} → f ≡ inPlace (readCertificate bs) → f ≡ Read c → IsRead bs c
+is-read bs e k = let same = read-as bs e k in record { read = same; place = ap placeIn (sym k ∙ e ∙ ap inPlace same) }
+
 -- a potential stands within the bytes
 pub potential-inside : (bs : List ℕ) (i : ℕ) → HasPotential bs i → headSize + potentialSize * i + potentialSize ≤ length bs
 potential-inside bs i h =
@@ -240,8 +251,14 @@ step-read bs c j h = items-at (stepIn bs) (c .from) stepSize (c .steps) j (recor
 -- and stands within the bytes
 pub step-inside : (bs : List ℕ) (c : Parts) (j : ℕ) → IsRead bs c → j < c .steps → c .from + stepSize * j + stepSize ≤ length bs
 step-inside bs c j e h =
-    let w = placed bs (certificateOf bs c) e in
-    let at = c .from + stepSize * j in
-    let width : length (part bs (at + 2) masksWidth) ≡ masksWidth =
-    ap (λ s. length (s .masks)) (sym (step-read bs c j h)) ∙ w .full j (rw (items-length (stepIn bs) (c .from) stepSize (c .steps)) h) in
-    omega (arith, width, length-take masksWidth (drop (at + 2) bs), length-drop (at + 2) bs)
+    omega (arith, e .place, placed bs (certificateOf bs c) (e .read) .stepInside j (rw (items-length (stepIn bs) (c .from) stepSize (c .steps)) h))
+
+-- its masks are packed in the number of their bytes
+pub step-packed : (bs : List ℕ) (at : ℕ) → AreBytes bs → at + stepSize ≤ length bs → unpacked (number (part bs (at + 2) masksWidth)) ≡ masksAt longReads (drop at bs)
+unfolding packed
+step-packed bs at h fits =
+    let here = drop-bytes at bs h in
+    let long : stepSize ≤ length (drop at bs) = omega (arith, length-drop at bs) in
+    let written : number (part bs (at + 2) masksWidth) ≡ packed (masksAt longReads (drop at bs)) =
+    ap (λ l. number (take masksWidth l)) (sym (drop-drop 2 at bs)) ∙ ap number (sym (masks-part longReads (drop at bs) here long)) in
+    ap unpacked written ∙ unpacked-packed (masksAt longReads (drop at bs)) (masks-fit longReads (drop at bs) here long .below) refl

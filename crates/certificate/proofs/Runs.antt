@@ -14,10 +14,11 @@ use lib.ListN.{length, getD, take, drop, length-map, length-drop}
 use lib.Seq.{drop-drop, getD-drop}
 use Rattle.model.specs.Lists.{upFrom}
 use Rattle.model.specs.Bytes.{number, signed, part}
-use Rattle.model.specs.Certificate.{Step, Parsed, consParsed, has, readPotentials, readSteps}
+use Rattle.model.specs.Edition.{longReads}
+use Rattle.model.specs.Certificate.{Step, Parsed, consParsed, has, readPotentials, masksAt, readSteps}
 use Rattle.model.proofs.Lists.{length-upFrom, getD-table, upFrom-append}
 use Rattle.model.proofs.Plan.{both}
-use Rattle.certificate.specs.View.{potentialCommand, stepCommand, potentialWidth, masksWidth, potentialSize, stepSize, potentialIn, stepIn, items}
+use Rattle.certificate.specs.View.{potentialCommand, stepCommand, potentialWidth, potentialSize, stepSize, potentialIn, stepIn, items}
 
 module _ {A : Type 0} (item : ℕ → A) (from size : ℕ) where
   pub items-length : (n : ℕ) → length (items item from size n) ≡ n
@@ -136,25 +137,25 @@ module _ (bs : List ℕ) (at : ℕ) where
 module _ (bs : List ℕ) (at : ℕ) where
   -- what is read after the command
   abbrev more : ℕ → Option (Parsed (List Step))
-  more m = consParsed (record { label = getD (drop at bs) 1 0; masks = part (drop at bs) 2 masksWidth }) (readSteps m (drop stepSize (drop at bs)))
+  more m = consParsed (record { label = getD (drop at bs) 1 0; masks = masksAt longReads (drop at bs) }) (readSteps longReads m (drop stepSize (drop at bs)))
 
   pub step-next : has (drop at bs) stepCommand 1 ≡ true → stepSize ≤ length bs - at → (m : ℕ) →
-      readSteps (suc m) (drop at bs) ≡ consParsed (stepIn bs at) (readSteps m (drop (at + stepSize) bs))
+      readSteps longReads (suc m) (drop at bs) ≡ consParsed (stepIn bs at) (readSteps longReads m (drop (at + stepSize) bs))
   unfolding readSteps
   step-next e h m =
       let here : eqb (getD (drop at bs) 0 0) stepCommand ≡ true = sym (has-one stepCommand refl (drop at bs)) ∙ e in
       let room : leb stepSize (length (drop at bs)) ≡ true = le-leb stepSize (length (drop at bs)) (rw length-drop h) in
       (λ i. cond (here i) (cond (room i) (more m) none) (some (record { value = []; rest = drop at bs })))
-      ∙ (λ i. consParsed (record { label = getD-drop at bs 1 0 i; masks = take masksWidth (drop-drop 2 at bs i) }) (readSteps m (drop-drop stepSize at bs i)))
+      ∙ (λ i. consParsed (record { label = getD-drop at bs 1 0 i; masks = masksAt longReads (drop at bs) }) (readSteps longReads m (drop-drop stepSize at bs i)))
 
-  pub step-fault : has (drop at bs) stepCommand 1 ≡ true → length bs - at < stepSize → (m : ℕ) → readSteps (suc m) (drop at bs) ≡ none
+  pub step-fault : has (drop at bs) stepCommand 1 ≡ true → length bs - at < stepSize → (m : ℕ) → readSteps longReads (suc m) (drop at bs) ≡ none
   unfolding readSteps
   step-fault e h m =
       let here : eqb (getD (drop at bs) 0 0) stepCommand ≡ true = sym (has-one stepCommand refl (drop at bs)) ∙ e in
       let room : leb stepSize (length (drop at bs)) ≡ false = lt-leb stepSize (length (drop at bs)) (rw length-drop h) in
       λ i. cond (here i) (cond (room i) (more m) none) (some (record { value = []; rest = drop at bs }))
 
-  pub step-none : has (drop at bs) stepCommand 1 ≡ false → (m : ℕ) → readSteps m (drop at bs) ≡ some (record { value = []; rest = drop at bs })
+  pub step-none : has (drop at bs) stepCommand 1 ≡ false → (m : ℕ) → readSteps longReads m (drop at bs) ≡ some (record { value = []; rest = drop at bs })
   unfolding readSteps
   step-none e zero = refl
   step-none e (suc m) =

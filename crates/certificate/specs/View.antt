@@ -8,9 +8,10 @@ use lib.Dec.{eqb}
 use lib.IntN.{ℤ}
 use lib.ListN.{length, getD, drop}
 use Rattle.model.specs.Limits.{maxTasks, maxSteps}
+use Rattle.model.specs.Edition.{longReads}
 use Rattle.model.specs.Lists.{upFrom}
 use Rattle.model.specs.Bytes.{number, signed, part}
-use Rattle.model.specs.Certificate.{Certificate, Step, Parsed, has, isEnd, withSteps, readSteps, readCertificate}
+use Rattle.model.specs.Certificate.{Certificate, Step, Parsed, has, stepWidth, masksAt, isEnd, withSteps, readSteps, readCertificate}
 use Rattle.certificate.specs.declared.Parts.{Parts}
 use Rattle.certificate.specs.declared.Form.{Form}
 use Rattle.certificate.specs.declared.Form.the-variants.{Fault, Read}
@@ -38,7 +39,7 @@ abbrev pub potentialWidth : ℕ
 potentialWidth = 8
 
 abbrev pub masksWidth : ℕ
-masksWidth = maxTasks
+masksWidth = longReads .maskWidth * maxTasks
 
 -- the bytes of the head, of a potential, of the cycle's start and of a step, each with its command
 abbrev pub headSize : ℕ
@@ -51,7 +52,7 @@ abbrev pub cycleSize : ℕ
 cycleSize = 3
 
 abbrev pub stepSize : ℕ
-stepSize = 2 + masksWidth
+stepSize = stepWidth longReads
 
 -- the fraction and the number of potentials in the head, and the node of a cycle that starts at a place
 abbrev pub pIn : List ℕ → ℕ
@@ -71,7 +72,7 @@ abbrev pub potentialIn : List ℕ → ℕ → ℤ
 potentialIn bs at = signed (number (part bs (at + 1) potentialWidth))
 
 abbrev pub stepIn : List ℕ → ℕ → Step
-stepIn bs at = record { label = getD bs (at + 1) 0; masks = part bs (at + 2) masksWidth }
+stepIn bs at = record { label = getD bs (at + 1) 0; masks = masksAt longReads (drop at bs) }
 
 -- n items of a size, one after another from a place on
 unfoldable pub items : {A : Type 0} → (ℕ → A) → ℕ → ℕ → ℕ → List A
@@ -103,9 +104,10 @@ abbrev pub inPlace : Option Certificate → Form
 inPlace none = Fault
 inPlace (some c) = Read (partsOf c)
 
--- the bytes are the certificate with these parts
-abbrev pub IsRead : List ℕ → Parts → Type 0
-IsRead bs c = readCertificate bs ≡ some (certificateOf bs c)
+-- the bytes are the certificate with these parts, and its steps stand where they were read
+pub record IsRead (bs : List ℕ) (c : Parts) : Type 0 where
+  pub read : readCertificate bs ≡ some (certificateOf bs c)
+  pub place : c .from ≡ stepsPlace (certificateOf bs c)
 
 -- the bytes are a certificate with a potential i
 pub record HasPotential (bs : List ℕ) (i : ℕ) : Type 0 where
@@ -135,4 +137,4 @@ endedAt bs at c = cond (isEnd (drop at bs)) (Read c) Fault
 abbrev pub cycleFrom : List ℕ → ℕ → ℕ → ℕ → ℕ → Option Certificate
 cycleFrom bs p q n at =
     let rest = drop at bs in
-    cond (has rest nodeCommand cycleSize) (withSteps p q (potentialsIn bs n) (cycleNodeIn rest 0) (readSteps maxSteps (drop cycleSize rest))) none
+    cond (has rest nodeCommand cycleSize) (withSteps p q (potentialsIn bs n) (cycleNodeIn rest 0) (readSteps longReads maxSteps (drop cycleSize rest))) none

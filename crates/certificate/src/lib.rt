@@ -1,4 +1,5 @@
 // Certificates: the form, read in place.
+use node::Edition;
 use node::Node;
 ghost use mathlib.Core.Path.{_≡_};
 ghost use mathlib.Core.Logic.{_⊎_};
@@ -6,9 +7,11 @@ ghost use mathlib.Core.Option.{some};
 ghost use Prim.Native.Nat.{_+_, _*_, _^_, _≤_, _<_};
 ghost use lib.ListN.{length, drop};
 ghost use Rattle.model.specs.Limits.{maxSteps};
+ghost use Rattle.model.specs.Edition.{longReads};
 ghost use Rattle.model.specs.Bytes.{number, part};
 ghost use Rattle.model.specs.Check as check-model;
 ghost use Rattle.model.specs.Certificate as model;
+ghost use Rattle.words.specs.Packed.{unpacked};
 ghost use Rattle.certificate.specs.View.{headSize, potentialSize, stepSize, potentialIn, stepIn, certificateOf, inPlace, runOf, Inside, IsRead, HasPotential, stepAt, endedAt, cycleFrom};
 
 // The bytes of the head, of a potential, of the cycle's start and of a step, each with its command.
@@ -18,10 +21,7 @@ pub const POTENTIAL_SIZE: usize = 9;
 
 pub const CYCLE_SIZE: usize = 3;
 
-pub const STEP_SIZE: usize = 2 + MASKS_SIZE;
-
-// The bytes of a step's masks.
-pub const MASKS_SIZE: usize = Node::MAX_TASKS;
+pub const STEP_SIZE: usize = 2 + Edition::MASK_WIDTH * Node::MAX_TASKS;
 
 const MAX_NODES: usize = Node::MAX_NODES;
 
@@ -164,7 +164,7 @@ fn potentials(s: &[u8], from: Cursor, n: usize) -> Run
 fn steps(s: &[u8], from: Cursor) -> Run
     requires { ⌜ from .at ≤ length (now s) ⌝ }
     ensures { λ r. ⌜ Inside (now (s .entry)) (from .at) stepSize r ⌝ }
-    ensures { λ r. ⌜ runOf (now (s .entry)) (stepIn (now (s .entry))) (from .at) stepSize r ≡ model.readSteps maxSteps (drop (from .at) (now (s .entry))) ⌝ }
+    ensures { λ r. ⌜ runOf (now (s .entry)) (stepIn (now (s .entry))) (from .at) stepSize r ≡ model.readSteps longReads maxSteps (drop (from .at) (now (s .entry))) ⌝ }
 {
     let mut i = 0;
     let mut cursor = from;
@@ -280,13 +280,11 @@ pub fn step_label(s: &[u8], parts: Parts, j: usize) -> u8
     s[from + STEP_SIZE * j + 1]
 }
 
-// The masks of the step j.
-pub fn step_masks(s: &[u8], parts: Parts, j: usize) -> [u8; MASKS_SIZE]
+// The masks of the step j, packed.
+pub fn step_masks(s: &[u8], parts: Parts, j: usize) -> u64
     requires { ⌜ IsRead (now s) parts × (j < parts .steps) ⌝ }
-    ensures { λ r. ⌜ r ≡ stepAt (certificateOf (now (s .entry)) parts .steps) j .masks ⌝ }
+    ensures { λ r. ⌜ unpacked r ≡ stepAt (certificateOf (now (s .entry)) parts .steps) j .masks ⌝ }
 {
     let from = parts.from;
-    let mut masks = [0u8; MASKS_SIZE];
-    words::copy(s, from + STEP_SIZE * j + 2, &mut masks, 0, MASKS_SIZE);
-    masks
+    words::read_u64(s, from + STEP_SIZE * j + 2)
 }

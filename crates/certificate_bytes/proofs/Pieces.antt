@@ -3,28 +3,30 @@
 use mathlib.Core.Path.{_≡_, refl, sym, ap, ap₂, _∙_}
 use mathlib.Core.Bool.{cond}
 use mathlib.Core.List.{List, [], _∷_, _++_, append-assoc, append-nil}
-use Prim.Native.Nat.{ℕ, _+_, _*_, _≤_}
-use native.Mathlib.Nat.{mul-zero, mul-suc}
+use Prim.Native.Nat.{ℕ, _+_, _^_, _≤_, _<_}
 use native.Mathlib.Omega.{arith}
 use lib.Dec.{eqb}
 use lib.IntN.{ℤ}
 use lib.ListN.{length, set, length-set, length-append}
-use lib.Seq.{take-all}
 use Rattle.model.specs.Lists.{flatMap}
-use Rattle.model.specs.Bytes.{bytes, part, overwrite}
-use Rattle.model.specs.Certificate.{Certificate, Step, certificateBytes}
-use Rattle.model.proofs.Lists.{flatMap-append}
+use Rattle.model.specs.Limits.{maxTasks}
+use Rattle.model.specs.Edition.{longReads}
+use Rattle.model.specs.Bytes.{bytes, overwrite}
+use Rattle.model.specs.Certificate.{Certificate, Step, stepBytes, certificateBytesIn, certificateBytes}
+use Rattle.model.proofs.Lists.{flatMap-append, flatMap-length}
 use Rattle.words.proofs.Numbers.{bytes-length}
 use Rattle.words.proofs.Memory.{overwrite-cons, overwrite-join}
-use Rattle.theory.proofs.Form.{potentialBytes, stepBytes}
-use Rattle.certificate.specs.View.{headCommand, stepCommand, masksWidth, headSize, potentialSize, cycleSize, stepSize}
-use Rattle.certificate_bytes.specs.Pieces.{headBytes, nodeBytes, endBytes}
+use Rattle.words.specs.Packed.{fieldBase, unpacked}
+use Rattle.words.proofs.Packed.{packed-eight, fields-length, fields-below, packed-unpacked}
+use Rattle.theory.proofs.Form.{potentialBytes}
+use Rattle.certificate.specs.View.{headCommand, stepCommand, headSize, potentialSize, cycleSize, stepSize}
+use Rattle.certificate_bytes.specs.Pieces.{headBytes, nodeBytes, packedStep, endBytes}
 
 -- one after another they are the certificate's bytes
 pub certificate-pieces : (c : Certificate) →
     certificateBytes c ≡ headBytes (c .p) (c .q) (length (c .potentials)) ++ flatMap potentialBytes (c .potentials)
-    ++ cond (eqb (c .q) 0) [] (nodeBytes (c .node) ++ flatMap stepBytes (c .steps)) ++ endBytes
-unfolding certificateBytes
+    ++ cond (eqb (c .q) 0) [] (nodeBytes (c .node) ++ flatMap (stepBytes longReads) (c .steps)) ++ endBytes
+unfolding certificateBytesIn
 certificate-pieces c = refl
 
 -- ---- their lengths
@@ -38,13 +40,8 @@ potential-length z = simp bytes-length
 pub node-length : (v : ℕ) → length (nodeBytes v) ≡ cycleSize
 node-length v = simp bytes-length
 
-pub step-length : (s : Step) → length (s .masks) ≡ masksWidth → length (stepBytes s) ≡ stepSize
-step-length s e = simp e
-
--- pieces of one size
-pub flatMap-length : {A : Type 0} (f : A → List ℕ) (size : ℕ) (l : List A) → ((a : A) → length (f a) ≡ size) → length (flatMap f l) ≡ size * length l
-flatMap-length f size [] h = sym (mul-zero size)
-flatMap-length f size (a ∷ l) h = rw (length-append, mul-suc) (omega (arith, h a, flatMap-length f size l h))
+pub step-length : (s : Step) → length (s .masks) ≡ maxTasks → length (stepBytes longReads s) ≡ stepSize
+step-length s e = omega (arith, e, flatMap-length (bytes 2) 2 (s .masks) (bytes-length 2))
 
 -- ---- written one after another
 
@@ -70,10 +67,20 @@ head-written m p q n fits =
     ∙ ap (λ k. overwrite k 9 (bytes 2 n)) (overwrite-then m 0 (headCommand ∷ bytes 4 p) (bytes 4 q) 5 (simp bytes-length) (simp bytes-length (omega arith)))
     ∙ overwrite-then m 0 ((headCommand ∷ bytes 4 p) ++ bytes 4 q) (bytes 2 n) 9 (simp (length-append, bytes-length)) (simp bytes-length (omega arith))
 
+-- packed masks are written two bytes each
+unpacked-bytes : (n : ℕ) → n < fieldBase ^ maxTasks → bytes 8 n ≡ flatMap (bytes 2) (unpacked n)
+unpacked-bytes n h = ap (bytes 8) (sym (packed-unpacked n h)) ∙ packed-eight (unpacked n) (fields-below maxTasks n) (fields-length maxTasks n)
+
 -- a step, by two stores and its masks
-pub step-written : (m : List ℕ) (at label : ℕ) (masks : List ℕ) → length masks ≡ masksWidth → at + stepSize ≤ length m →
-    overwrite (set (set m at stepCommand) (at + 1) label) (at + 2) (part masks 0 masksWidth) ≡ overwrite m at (stepCommand ∷ label ∷ masks)
-step-written m at label masks e fits =
-    ap₂ (λ (k : ℕ) bs. overwrite (set (set m at stepCommand) (at + 1) label) k bs) (omega arith) (take-all masksWidth masks (omega arith))
-    ∙ overwrite-cons (set m at stepCommand) (at + 1) label masks (simp length-set (omega arith))
-    ∙ overwrite-cons m at stepCommand (label ∷ masks) (omega arith)
+pub step-written : (m : List ℕ) (at label masks : ℕ) → masks < fieldBase ^ maxTasks → at + stepSize ≤ length m →
+    overwrite (set (set m at stepCommand) (at + 1) label) (at + 2) (bytes 8 masks) ≡ overwrite m at (stepBytes longReads (packedStep label masks))
+step-written m at label masks small fits =
+    ap₂ (λ (k : ℕ) bs. overwrite (set (set m at stepCommand) (at + 1) label) k bs) (omega arith) (unpacked-bytes masks small)
+    ∙ overwrite-cons (set m at stepCommand) (at + 1) label written (simp length-set (omega (arith, size)))
+    ∙ overwrite-cons m at stepCommand (label ∷ written) (omega (arith, size))
+  where
+    written : List ℕ
+    written = flatMap (bytes 2) (unpacked masks)
+
+    size : length (stepBytes longReads (packedStep label masks)) ≡ stepSize
+    size = step-length (packedStep label masks) (fields-length maxTasks masks)

@@ -4,8 +4,10 @@ ghost use mathlib.Core.List.{_∷_};
 ghost use Prim.Native.Nat.{_+_, _*_, _≤_, _<_};
 ghost use lib.ListN.{length};
 ghost use Rattle.model.specs.Bytes.{bytes, complement, overwrite};
-ghost use Rattle.certificate.specs.View.{potentialCommand, stepCommand, potentialWidth, headSize, potentialSize, cycleSize, stepSize};
-ghost use Rattle.certificate_bytes.specs.Pieces.{headBytes, nodeBytes, endBytes};
+ghost use Rattle.model.specs.Edition.{longReads};
+ghost use Rattle.model.specs.Certificate.{stepBytes};
+ghost use Rattle.certificate.specs.View.{potentialCommand, potentialWidth, headSize, potentialSize, cycleSize, stepSize};
+ghost use Rattle.certificate_bytes.specs.Pieces.{headBytes, nodeBytes, packedStep, endBytes};
 
 // Writes the head, for n potentials.
 pub fn write_head(out: &mut [u8], p: u32, q: u32, n: u16)
@@ -37,14 +39,14 @@ pub fn write_cycle_head(out: &mut [u8], at: usize, node: u16)
     words::write_u16(out, at + 1, node);
 }
 
-// Writes a step.
-pub fn write_step(out: &mut [u8], at: usize, label: u8, masks: [u8; certificate::MASKS_SIZE])
+// Writes a step, its masks packed.
+pub fn write_step(out: &mut [u8], at: usize, label: u8, masks: u64)
     requires { ⌜ at + stepSize ≤ length (now out) ⌝ }
-    ensures { λ _. ⌜ now (out .exit) ≡ overwrite (now (out .entry)) at (stepCommand ∷ label ∷ masks) ⌝ }
+    ensures { λ _. ⌜ now (out .exit) ≡ overwrite (now (out .entry)) at (stepBytes longReads (packedStep label masks)) ⌝ }
 {
     out[at] = 0x14;
     out[at + 1] = label;
-    words::copy(&masks, 0, out, at + 2, certificate::MASKS_SIZE);
+    words::write_u64(out, at + 2, masks);
 }
 
 // Writes the end.

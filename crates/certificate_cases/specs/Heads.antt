@@ -26,3 +26,12 @@ pub record PassesLine (plan : List ℕ) (n : ℕ) : Type 0 where
   pub before : List ℕ
   pub after : List ℕ
   pub written : Puts inPasses (solve plan workRoom certificateRoom) before after n
+
+-- r says whether the output begins with the head, once the solve call was lent so many bytes and what it tells has its line
+pub record Called (plan head : List ℕ) (lent room : ℕ) (r : Bool) : Type 0 where
+  pub before : List ℕ
+  pub after : List ℕ
+  pub size : ℕ
+  pub written : Puts inPasses (solve plan lent room) before after size
+  pub output : List ℕ
+  pub begins : Begins output head r

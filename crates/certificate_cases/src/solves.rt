@@ -22,7 +22,7 @@ fn begins_with(bytes: &[u8], head: &[u8]) -> bool
 }
 
 // Writes whether the bytes begin with a head, and answers it.
-fn write_comparison(bytes: &[u8], head: &[u8]) -> bool
+pub fn write_comparison(bytes: &[u8], head: &[u8]) -> bool
     ensures { λ r. ⌜ Begins (now (bytes .entry)) (now (head .entry)) r ⌝ }
 {
     let same = begins_with(bytes, head);

@@ -46,7 +46,7 @@ fn verdict(
     graph: Graph,
     s: &[u8],
     parts: Parts,
-    notes: &mut [u8],
+    notes: &mut [u32; graph::NOTE_ROOM],
     m: &[u8],
 ) -> Answer
     requires { ⌜ Ruled (graph .rules) × Held (graph .rules) (now next) (now m) (graph .n) × IsRead (now s) parts × (noteRoom ≤ length (now notes)) ⌝ }
@@ -90,7 +90,7 @@ fn check_certificate(
     rules: Rules,
     n: usize,
     s: &[u8],
-    notes: &mut [u8],
+    notes: &mut [u32; graph::NOTE_ROOM],
     m: &[u8],
 ) -> Answer
     requires { ⌜ Ruled rules × Held rules (now next) (now m) n × (noteRoom ≤ length (now notes)) ⌝ }

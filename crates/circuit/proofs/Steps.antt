@@ -11,22 +11,25 @@ use lib.ListN.{length, getD, take, drop, length-map, drop-of-length-le}
 use lib.Seq.{length-take-le, take-all, take-suc, drop-cons}
 use borrow.Author.Tests.{eqb-true, eqb-false}
 use Rattle.model.specs.Bytes.{overwrite}
+use Rattle.model.specs.Edition.{longReads}
+use Rattle.model.specs.Certificate.{stepBytes}
 use Rattle.model.specs.Graph.{Edge}
 use Rattle.model.specs.Limits.{maxTasks, maxValue}
 use Rattle.model.specs.Lists.{flatMap, upFrom}
 use Rattle.model.specs.Plan.{Plan}
 use Rattle.model.specs.Walk.{kept, ideal}
-use Rattle.model.proofs.Lists.{length-upFrom, getD-table}
+use Rattle.model.proofs.Lists.{flatMap-length, length-upFrom, getD-table}
 use Rattle.words.proofs.Memory.{overwrite-none}
 use Rattle.theory.specs.Search.{Taken}
 use Rattle.theory.specs.Lightest.{Best, Along, here, go, stepOf}
 use Rattle.theory.proofs.Circuits.{along-walk, firstNode, along-length, along-first, along-same}
 use Rattle.theory.proofs.Cycles.{sumOf-append}
-use Rattle.theory.proofs.Form.{stepBytes, padded-length}
+use Rattle.theory.proofs.Form.{padded-length}
 use Rattle.theory.proofs.Gains.{walk-kept-le, walk-ideal-le}
 use Rattle.theory.proofs.Sound.{PlanSound}
 use Rattle.certificate.specs.View.{stepSize}
-use Rattle.certificate_bytes.proofs.Pieces.{step-length, flatMap-length, overwrite-piece}
+use Rattle.certificate_bytes.specs.Pieces.{packedStep}
+use Rattle.certificate_bytes.proofs.Pieces.{step-length, overwrite-piece}
 use Rattle.policy.specs.declared.Rules.{Rules}
 use Rattle.links.specs.Links.{takenIn, takenOf, firstSteps}
 use Rattle.links.specs.declared.Taken as links
@@ -168,12 +171,12 @@ module _ {P : Plan} {m : List ℕ} {k v : ℕ} where
 -- ---- their bytes
 
 abbrev pub edgeBytes : Edge → List ℕ
-edgeBytes e = stepBytes (stepOf e)
+edgeBytes e = stepBytes longReads (stepOf e)
 
 pub edge-length : (e : Edge) → length (edgeBytes e) ≡ stepSize
 edge-length e = step-length (stepOf e) (padded-length (e .masks))
 
-pub edges-bytes : (es : List Edge) → flatMap edgeBytes es ≡ flatMap stepBytes (map stepOf es)
+pub edges-bytes : (es : List Edge) → flatMap edgeBytes es ≡ flatMap (stepBytes longReads) (map stepOf es)
 edges-bytes [] = refl
 edges-bytes (e ∷ es) = ap (λ bs. edgeBytes e ++ bs) (edges-bytes es)
 
@@ -189,12 +192,12 @@ module _ {P : Plan} {m : List ℕ} {k v : ℕ} {es : List Edge} (a : Along P v (
 
   pub written-more : {i : ℕ} {after : List ℕ} {b : BestEdge} → i < k → at + stepSize * k ≤ length before → Written P m k v i before at after →
       StandsFor P (takenIn m i .node) (takenIn m i .label) (nodeAfter m k i) b →
-      Written P m k v (i + 1) before at (overwrite after (at + stepSize * i) (stepBytes (record { label = b .label; masks = b .masks })))
+      Written P m k v (i + 1) before at (overwrite after (at + stepSize * i) (stepBytes longReads (packedStep (b .label) (b .masks))))
   written-more {i} {after} {b} h fits w t = record {
     edges = w .edges ++ (t .edge ∷ []);
     along = part-more m k a i h (w .along) (t .best);
     bytes =
-        (λ j. overwrite (w .bytes j) (at + stepSize * i) (stepBytes (record { label = sym (t .label) j; masks = sym (t .masks) j })))
+        (λ j. overwrite (w .bytes j) (at + stepSize * i) (stepBytes longReads (record { label = sym (t .label) j; masks = sym (t .masks) j })))
         ∙ overwrite-piece edgeBytes before at [] (w .edges) (t .edge) (at + stepSize * i)
         (omega (arith, flatMap-length edgeBytes stepSize (w .edges) edge-length, ap (λ (n : ℕ). stepSize * n) (part-length m k i (omega arith) (w .along))))
         (omega (arith, edge-length (t .edge)));

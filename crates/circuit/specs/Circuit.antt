@@ -1,19 +1,20 @@
 -- A cycle of steps in lent memory: its best edges, their gains, and its steps in a certificate.
 use mathlib.Core.Path.{_≡_}
 use mathlib.Core.Bool.{cond}
-use mathlib.Core.List.{List, _∷_, map}
+use mathlib.Core.List.{List, map}
 use Prim.Native.Nat.{ℕ, _+_, _<_, _≤_}
 use lib.Dec.{eqb}
 use lib.ListN.{length}
 use Rattle.model.specs.Bytes.{overwrite}
-use Rattle.model.specs.Certificate.{Step}
+use Rattle.model.specs.Certificate.{Step, stepBytes}
 use Rattle.model.specs.Check.{padded}
 use Rattle.model.specs.Graph.{Edge}
 use Rattle.model.specs.Limits.{maxSteps}
+use Rattle.model.specs.Edition.{longReads}
 use Rattle.model.specs.Lists.{flatMap}
 use Rattle.model.specs.Plan.{Plan}
+use Rattle.words.specs.Packed.{unpacked}
 use Rattle.theory.specs.Lightest.{Best, Along, stepOf}
-use Rattle.certificate.specs.View.{stepCommand}
 use Rattle.policy.specs.View.{tasksIn}
 use Rattle.policy.specs.declared.Rules.{Rules}
 use Rattle.graph.specs.View.{Planned}
@@ -46,7 +47,7 @@ pub record StandsFor (P : Plan) (u l v : ℕ) (b : BestEdge) : Type 0 where
   pub label : edge .label ≡ b .label
   pub kept : edge .kept ≡ b .kept
   pub ideal : edge .ideal ≡ b .ideal
-  pub masks : padded (edge .masks) ≡ b .masks
+  pub masks : padded (edge .masks) ≡ unpacked (b .masks)
 
 -- ---- the steps
 
@@ -72,9 +73,9 @@ pub record Turning (r : Rules) (m : List ℕ) (k : ℕ) : Type 0 where
   pub edges : List Edge
   pub turns : Turns plan r next m count k node edges
 
--- `14` label and four masks for each step
+-- the bytes of steps, one after another
 abbrev pub stepsBytes : List Step → List ℕ
-stepsBytes ss = flatMap (λ s. stepCommand ∷ s .label ∷ s .masks) ss
+stepsBytes ss = flatMap (stepBytes longReads) ss
 
 -- best edges along the first k steps are written from a place on
 pub record Writes (P : Plan) (m : List ℕ) (k v : ℕ) (before : List ℕ) (at : ℕ) (after : List ℕ) : Type 0 where

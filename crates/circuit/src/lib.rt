@@ -18,12 +18,12 @@ ghost use Rattle.discovery.specs.Discovery.{nodeIn};
 ghost use Rattle.links.specs.Links.{linksEnd, takenIn};
 ghost use Rattle.circuit.specs.Circuit.{Linked, Linking, StandsFor, nodeAfter, Turns, Turning, Writes};
 
-// A best edge of a label between two nodes: both gains, and the masks.
+// A best edge of a label between two nodes: both gains, and the masks, packed.
 struct BestEdge {
     label: u8,
     kept: u32,
     ideal: u32,
-    masks: [u8; certificate::MASKS_SIZE],
+    masks: u64,
 }
 
 // The sums of both gains.
@@ -51,7 +51,7 @@ fn best_edge(
     from: usize,
     label: u8,
     to: usize,
-    notes: &mut [u8],
+    notes: &mut [u32; graph::NOTE_ROOM],
     m: &[u8],
 ) -> BestEdge
     requires { ⌜ Ruled rules × Linking rules (now m) from label to × (noteRoom ≤ length (now notes)) ⌝ }
@@ -60,14 +60,15 @@ fn best_edge(
 {
     let node = node_at(m, from);
     let target = node_at(m, to);
-    let noted = graph::reach(rules, node, label, notes);
+    let wanted = target.taken;
+    let noted = graph::reach(rules, node, label, wanted, notes);
     let done = noted.done;
-    let pattern = target.taken as usize;
-    let ideal = graph::best_score(notes, pattern) - 1;
-    let masks = graph::best_masks(notes, pattern);
+    let kept = done.gain as u32;
+    let ideal = graph::best_score(notes, wanted as usize) - 1;
+    let masks = graph::best_masks(notes, rules.count);
     BestEdge {
         label,
-        kept: done.gain as u32,
+        kept,
         ideal,
         masks,
     }
@@ -85,7 +86,13 @@ fn next_node(m: &[u8], k: usize, i: usize) -> usize
 }
 
 // A best edge of the step i of k.
-fn step_edge(rules: Rules, k: usize, i: usize, notes: &mut [u8], m: &[u8]) -> BestEdge
+fn step_edge(
+    rules: Rules,
+    k: usize,
+    i: usize,
+    notes: &mut [u32; graph::NOTE_ROOM],
+    m: &[u8],
+) -> BestEdge
     requires { ⌜ Ruled rules × Turning rules (now m) k × (i < k) × (noteRoom ≤ length (now notes)) ⌝ }
     ensures { λ r. ⌜ ((P : Plan) (next : List ℕ) (n v : ℕ) (es : List model.Edge) → Turns P rules next (now (m .entry)) n k v es → StandsFor P (takenIn (now (m .entry)) i .node) (takenIn (now (m .entry)) i .label) (nodeAfter (now (m .entry)) k i) r) ⌝ }
     ensures { λ _. ⌜ NotesFree (now (notes .entry)) (now (notes .exit)) ⌝ }
@@ -96,7 +103,7 @@ fn step_edge(rules: Rules, k: usize, i: usize, notes: &mut [u8], m: &[u8]) -> Be
 }
 
 // The gains of a cycle of k steps.
-pub fn gains(rules: Rules, k: usize, notes: &mut [u8], m: &[u8]) -> Sums
+pub fn gains(rules: Rules, k: usize, notes: &mut [u32; graph::NOTE_ROOM], m: &[u8]) -> Sums
     requires { ⌜ Ruled rules × Turning rules (now m) k × (noteRoom ≤ length (now notes)) ⌝ }
     ensures { λ r. ⌜ ((P : Plan) (next : List ℕ) (n v : ℕ) (es : List model.Edge) → Turns P rules next (now (m .entry)) n k v es → (r .kept ≡ walk-model.kept es) × (r .ideal ≡ walk-model.ideal es)) ⌝ }
     ensures { λ _. ⌜ NotesFree (now (notes .entry)) (now (notes .exit)) ⌝ }
@@ -126,7 +133,14 @@ pub fn lowest(kept: u32, ideal: u32) -> Fraction
 }
 
 // Writes the steps of a cycle of k steps from the place `at` on.
-pub fn write_steps(rules: Rules, k: usize, notes: &mut [u8], m: &[u8], out: &mut [u8], at: usize)
+pub fn write_steps(
+    rules: Rules,
+    k: usize,
+    notes: &mut [u32; graph::NOTE_ROOM],
+    m: &[u8],
+    out: &mut [u8],
+    at: usize,
+)
     requires { ⌜ Ruled rules × Turning rules (now m) k × (noteRoom ≤ length (now notes)) × (at + stepSize * k ≤ length (now out)) ⌝ }
     ensures { λ _. ⌜ ((P : Plan) (next : List ℕ) (n v : ℕ) (es : List model.Edge) → Turns P rules next (now (m .entry)) n k v es → Writes P (now (m .entry)) k v (now (out .entry)) at (now (out .exit))) ⌝ }
     ensures { λ _. ⌜ NotesFree (now (notes .entry)) (now (notes .exit)) ⌝ }
@@ -134,8 +148,7 @@ pub fn write_steps(rules: Rules, k: usize, notes: &mut [u8], m: &[u8], out: &mut
     let mut i = 0;
     while i < k {
         let edge = step_edge(rules, k, i, notes, m);
-        let masks = edge.masks;
-        certificate_bytes::write_step(out, at + certificate::STEP_SIZE * i, edge.label, masks);
+        certificate_bytes::write_step(out, at + certificate::STEP_SIZE * i, edge.label, edge.masks);
         i += 1;
     }
 }

@@ -10,7 +10,8 @@ use lib.ListN.{length}
 use Rattle.model.specs.Bytes.{overwrite}
 use Rattle.model.specs.Calls.{Writing, refuses, writes, withPlan}
 use Rattle.model.specs.Discovery.{found}
-use Rattle.model.specs.Limits.{maxStates, planRoom}
+use Rattle.model.specs.Limits.{maxStates}
+use Rattle.model.specs.Edition.{planRoom}
 use Rattle.model.specs.Lists.{sameBy}
 use Rattle.model.specs.Refusals.{outOfRange, shortMemory, tooManyPairs}
 use Rattle.model.specs.Plan as model

@@ -3,7 +3,7 @@ use mathlib.Core.Path.{_≡_, refl, sym, ap, _∙_}
 use mathlib.Core.Bool.{Bool, true, false, cond, _&&_}
 use mathlib.Core.List.{List}
 use mathlib.Core.Option.{Option, none, some}
-use Prim.Native.Nat.{ℕ, _*_, _≤_, _<_}
+use Prim.Native.Nat.{ℕ, _*_, _^_, _≤_, _<_}
 use lib.Dec.{ltb, eqb}
 use lib.ListN.{length, getD}
 use borrow.Author.Tests.{eq-eqb, ne-eqb, lt-ltb, le-ltb}
@@ -18,7 +18,7 @@ use Rattle.policy.specs.View.{Tasks, cellCount, Cells}
 use Rattle.graph.specs.View.{nodeOf}
 use Rattle.node.specs.declared.Node as graph
 use Rattle.store.specs.Store.{rowAt}
-use Rattle.discovery.specs.Discovery.{rowOf, nodeIn, Holding}
+use Rattle.discovery.specs.Discovery.{patternBytes, rowOf, nodeIn, Holding}
 use Rattle.discovery.proofs.Nodes.{row-view, held-row-at}
 use Rattle.cycle.specs.Cycle.{reachedIn}
 use Rattle.cycle.specs.declared.Walked.{Walked}
@@ -74,8 +74,8 @@ module _ (P : Plan) (c : Certificate) (recurs : c .q ≡ 0 → ⊥) (inside : c 
 
 -- rows are equal just if their nodes are
 pub same-end : (ts : Tasks) (m : List ℕ) (n : ℕ) → Holding ts m n → (j : ℕ) → j < n → (from at : graph.Node) → from ≡ nodeIn (rowAt m j) →
-    Cells ts cellCount (at .cells) → (end : List ℕ) → end ≡ rowOf at → (b : Bool) → b ≡ sameNumbers (rowAt m j) end →
+    Cells ts cellCount (at .cells) → at .taken < 256 ^ patternBytes → (end : List ℕ) → end ≡ rowOf at → (b : Bool) → b ≡ sameNumbers (rowAt m j) end →
     sameNode (nodeOf ts at) (nodeOf ts from) ≡ b
-same-end ts m n held j below from at is fits end ends b tested =
+same-end ts m n held j below from at is fits small end ends b tested =
     same-back sameNode same-node (nodeOf ts at) (nodeOf ts from) ∙ ap (λ (u : graph.Node). sameNode (nodeOf ts u) (nodeOf ts at)) is
-    ∙ row-view ts at fits (rowAt m j) (held-row-at ts m n held j below) ∙ ap (sameNumbers (rowAt m j)) (sym ends) ∙ sym tested
+    ∙ row-view ts at fits small (rowAt m j) (held-row-at ts m n held j below) ∙ ap (sameNumbers (rowAt m j)) (sym ends) ∙ sym tested

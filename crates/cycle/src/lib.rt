@@ -9,6 +9,7 @@ ghost use lib.Dec.{eqb, ltb};
 ghost use Rattle.model.specs.Check.{cycleOk};
 ghost use Rattle.model.specs.Graph.{nodes};
 ghost use Rattle.model.specs.Limits.{maxStates};
+ghost use Rattle.model.specs.Masks.{maskCount};
 ghost use Rattle.model.specs.Plan.{Plan};
 ghost use Rattle.certificate.specs.View.{certificateOf, IsRead};
 ghost use Rattle.policy.specs.View.{cellCount, Cells, tasksIn, Ruled};
@@ -39,7 +40,7 @@ fn lost(from: Node) -> Walked
 // Where the steps of a certificate lead from a node.
 fn follow(next: &[u8; plan::PAIRS], rules: Rules, s: &[u8], parts: Parts, from: Node) -> Walked
     requires { ⌜ Ruled rules × TableFits (now next) (rules .count) × IsRead (now s) parts ⌝ }
-    requires { ⌜ Cells (tasksIn rules) cellCount (from .cells) × (from .state < maxStates) ⌝ }
+    requires { ⌜ Cells (tasksIn rules) cellCount (from .cells) × (from .state < maxStates) × (from .taken < maskCount) ⌝ }
     ensures { λ r. ⌜ Followed (now (next .entry)) rules (certificateOf (now (s .entry)) parts .steps) from r ⌝ }
 {
     let mut at = from;

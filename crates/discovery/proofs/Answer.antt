@@ -13,6 +13,7 @@ use Rattle.model.specs.Bytes.{Only}
 use Rattle.model.specs.Graph as model
 use Rattle.model.specs.Graph.{nodes, tooLarge}
 use Rattle.model.specs.Limits.{maxNodes, maxStates}
+use Rattle.model.specs.Masks.{maskCount}
 use Rattle.model.specs.Plan.{Plan, IsSound}
 use Rattle.policy.specs.View.{Tasks, cellCount, Cells, tasksIn}
 use Rattle.policy.specs.declared.Rules.{Rules}
@@ -25,7 +26,7 @@ use Rattle.store.proofs.Rows.{distinct-none}
 use Rattle.discovery.specs.declared.Discovered.{Discovered}
 use Rattle.discovery.specs.declared.Discovered.the-variants.{TooMany, Nodes}
 use Rattle.discovery.proofs.Held.{held-count, held-node}
-use Rattle.discovery.proofs.Whole.{state-below}
+use Rattle.discovery.proofs.Whole.{state-below, taken-below}
 use Rattle.discovery.specs.Discovery.{nodeIn, nodesIn, Holding, Known, Stored, Adds, Begun, Holds, Discovers}
 
 pub none-stored : (m : List ℕ) → Indexed m 0 → Stored m 0
@@ -36,7 +37,7 @@ pub begun : (r : Rules) (u : Node) → u ≡ startNode → (m m′ : List ℕ) (
     Adds (u .cells) (λ ts. nodeOf ts u ∷ []) m 0 m′ q → Begun r m′ q × Only 0 storeBytes m m′
 unfolding nodesIn rowsIn
 begun r u e m m′ q index adds =
-    let none-held : Holding (tasksIn r) m 0 = record { index = index; distinct = distinct-none m; cells = λ j h. absurd (omega arith) } in
+    let none-held : Holding (tasksIn r) m 0 = record { index = index; distinct = distinct-none m; cells = λ j h. absurd (omega arith); rows = λ j h. absurd (omega arith) } in
     let known = adds .known (tasksIn r) none-held (subst (λ (v : Node). Cells (tasksIn r) cellCount (v .cells)) (sym e) (start-cells (tasksIn r))) in
     let one : q ≤ maxNodes = by (ltb maxNodes q) refl (known .many) in
     (record { held = known .held one .0; nodes = known .held one .1 ∙ ap (λ (v : model.Node). v ∷ []) (ap (nodeOf (tasksIn r)) e ∙ start-view (tasksIn r)) }, known .only)
@@ -87,3 +88,10 @@ unfolding nodes
 node-state P ts m n holds sound u h =
     subst (λ (v : model.Node). v .state < maxStates) (sym (held-node ts m n (nodes P) (holds .nodes) u h))
     (state-below P sound maxNodes u (omega (arith, held-count ts m n (nodes P) (holds .nodes))))
+
+-- and their patterns have the bits of a mask
+pub node-taken : (P : Plan) (ts : Tasks) (m : List ℕ) (n : ℕ) → Holds P ts m n → IsSound P → (u : ℕ) → u < n → nodeIn (rowAt m u) .taken < maskCount
+unfolding nodes
+node-taken P ts m n holds sound u h =
+    subst (λ (v : model.Node). v .taken < maskCount) (sym (held-node ts m n (nodes P) (holds .nodes) u h))
+    (taken-below P sound maxNodes u (omega (arith, held-count ts m n (nodes P) (holds .nodes))))

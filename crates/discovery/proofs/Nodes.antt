@@ -2,12 +2,13 @@
 use mathlib.Core.Path.{_≡_, refl, sym, ap, ap₂, subst, _∙_}
 use mathlib.Core.Bool.{Bool, true, false, cond}
 use mathlib.Core.List.{List, [], _∷_, _++_, map, map-append}
-use Prim.Native.Nat.{ℕ, suc, _+_, _*_, _≤_, _<_}
+use Prim.Native.Nat.{ℕ, suc, _+_, _*_, _^_, _≤_, _<_}
 use native.Mathlib.Omega.{arith}
 use lib.Dec.{ltb}
 use lib.Seq.{getD-append-seam}
 use lib.ListN.{length, getD, length-append, length-map, List·getD-append}
 use borrow.Author.Tests.{ltb-true, ltb-false}
+use Rattle.model.specs.Bytes.{bytes}
 use Rattle.model.specs.Discovery.{among, add, numberIn}
 use Rattle.model.specs.Graph as model
 use Rattle.model.specs.Graph.{sameNode}
@@ -25,17 +26,18 @@ use Rattle.store.specs.declared.Found.the-variants.{Full, At}
 use Rattle.store.specs.Store.{rowBytes, maxRows, rowAt, rowsIn, indexIn, Distinct, Indexed, rowsWith, foundIn, countAfter, Kept}
 use Rattle.store.proofs.Rows.{rows-length, rows-at}
 use Rattle.model.proofs.Tests.{same-decided, same-numbers}
-use Rattle.discovery.specs.Discovery.{rowOf, nodeIn, viewOf, nodesIn, Holding, countIn, Known, Stored, Adds}
-use Rattle.discovery.proofs.Rows.{row-node, node-row, row-length}
+use Rattle.discovery.specs.Discovery.{patternBytes, rowOf, nodeIn, viewOf, nodesIn, Holding, countIn, Known, Stored, Adds}
+use Rattle.discovery.proofs.Rows.{node-row, row-length}
 
 -- a row of a node whose cells a node can hold
 pub record Row (ts : Tasks) (row : List ℕ) : Type 0 where
   pub size : length row ≡ rowBytes
   pub cells : Cells ts cellCount (nodeIn row .cells)
+  pub own : rowOf (nodeIn row) ≡ row
 
-module _ (ts : Tasks) (u : Node) (fits : Cells ts cellCount (u .cells)) where
+module _ (ts : Tasks) (u : Node) (fits : Cells ts cellCount (u .cells)) (small : u .taken < 256 ^ patternBytes) where
   own-view : viewOf ts (rowOf u) ≡ nodeOf ts u
-  own-view = ap (nodeOf ts) (node-row u (fits .size))
+  own-view = ap (nodeOf ts) (node-row u (fits .size) small)
 
   -- rows are equal just if the nodes of the model are
   pub row-view : (row : List ℕ) → Row ts row → sameNode (viewOf ts row) (nodeOf ts u) ≡ sameNumbers row (rowOf u)
@@ -44,7 +46,7 @@ module _ (ts : Tasks) (u : Node) (fits : Cells ts cellCount (u .cells)) where
         λ h. ap (viewOf ts) (same-numbers row (rowOf u) .0 h) ∙ own-view,
         λ e.
             let same = same-view ts (nodeIn row) u (ok .cells) fits .0 e in
-            same-numbers row (rowOf u) .1 (sym (row-node row (ok .size)) ∙ (λ i. same .0 i ++ (same .1 i ∷ same .2 i ∷ []))),
+            same-numbers row (rowOf u) .1 (sym (ok .own) ∙ (λ i. same .0 i ++ (bytes patternBytes (same .1 i) ++ (same .2 i ∷ [])))),
       )
 
   -- a node's number is that of its row
@@ -67,7 +69,8 @@ module _ (ts : Tasks) (u : Node) (fits : Cells ts cellCount (u .cells)) where
   own-row : Row ts (rowOf u)
   own-row = record {
     size = row-length u (fits .size);
-    cells = subst (Cells ts cellCount) (sym (ap (λ (w : Node). w .cells) (node-row u (fits .size)))) fits;
+    cells = subst (Cells ts cellCount) (sym (ap (λ (w : Node). w .cells) (node-row u (fits .size) small))) fits;
+    own = ap rowOf (node-row u (fits .size) small);
   }
 
   module _ (rows : List (List ℕ)) (ok : (j : ℕ) → j < length rows → Row ts (getD rows j [])) where
@@ -102,6 +105,7 @@ module _ (ts : Tasks) (m : List ℕ) (n : ℕ) (held : Holding ts m n) where
   held-row-at j below = record {
     size = part-length m (rowBytes * j) rowBytes (omega (arith, held .index .few, held .index .room));
     cells = held .cells j below;
+    own = held .rows j below;
   }
 
   pub held-row : (j : ℕ) → j < length (rowsIn m n) → Row ts (getD (rowsIn m n) j [])
@@ -118,9 +122,13 @@ holding ts m n rows e index distinct ok = record {
       let below : j < length rows = subst (λ (l : List (List ℕ)). j < length l) e (omega (arith, rows-length m n)) in
       let same : getD rows j [] ≡ rowAt m j = ap (λ (l : List (List ℕ)). getD l j []) (sym e) ∙ rows-at m n j h in
       subst (λ (r : List ℕ). Cells ts cellCount (nodeIn r .cells)) same (ok j below .cells);
+  rows = λ j h.
+      let below : j < length rows = subst (λ (l : List (List ℕ)). j < length l) e (omega (arith, rows-length m n)) in
+      let same : getD rows j [] ≡ rowAt m j = ap (λ (l : List (List ℕ)). getD l j []) (sym e) ∙ rows-at m n j h in
+      subst (λ (r : List ℕ). rowOf (nodeIn r) ≡ r) same (ok j below .own);
 }
 
-module _ (ts : Tasks) (u : Node) (fits : Cells ts cellCount (u .cells)) (m m′ : List ℕ) (n : ℕ) (held : Holding ts m n) where
+module _ (ts : Tasks) (u : Node) (fits : Cells ts cellCount (u .cells)) (small : u .taken < 256 ^ patternBytes) (m m′ : List ℕ) (n : ℕ) (held : Holding ts m n) where
   abbrev target : List model.Node
   target = add sameNode (nodesIn ts m n) (nodeOf ts u)
 
@@ -156,15 +164,15 @@ module _ (ts : Tasks) (u : Node) (fits : Cells ts cellCount (u .cells)) (m m′ 
       by true e b f at same =
           subst Result (sym at)
           (known-at i (length rows) rows (subst (Kept m m′ n (rowOf u)) at kept)
-          (ap (λ (q : Found). rowsIn m′ (countAfter n q)) (sym at) ∙ same) ok (sym (add-there ts u fits rows ok e)))
+          (ap (λ (q : Found). rowsIn m′ (countAfter n q)) (sym at) ∙ same) ok (sym (add-there ts u fits small rows ok e)))
       by false e true f at same =
           subst Result (sym at)
           (known-at i (length rows + 1) (rows ++ (rowOf u ∷ [])) (subst (Kept m m′ n (rowOf u)) at kept)
-          (ap (λ (q : Found). rowsIn m′ (countAfter n q)) (sym at) ∙ same) (with-own ts u fits rows ok)
-          (new-nodes ts u fits rows ok ∙ sym (add-new ts u fits rows ok e)))
+          (ap (λ (q : Found). rowsIn m′ (countAfter n q)) (sym at) ∙ same) (with-own ts u fits small rows ok)
+          (new-nodes ts u fits small rows ok ∙ sym (add-new ts u fits small rows ok e)))
       by false e false f at same =
           let more : length target ≡ length rows + 1 =
-          ap length (add-new ts u fits rows ok e) ∙ length-append (map (viewOf ts) rows) (nodeOf ts u ∷ [])
+          ap length (add-new ts u fits small rows ok e) ∙ length-append (map (viewOf ts) rows) (nodeOf ts u ∷ [])
           ∙ ap (λ (k : ℕ). k + 1) (length-map rows (viewOf ts)) in
           subst Result (sym at) record {
             held = λ few. absurd (omega arith);
@@ -173,9 +181,9 @@ module _ (ts : Tasks) (u : Node) (fits : Cells ts cellCount (u .cells)) (m m′ 
           }
 
 -- the same, with what is known of the row and of the answer
-pub adds-answer : (u : Node) (m m′ : List ℕ) (n : ℕ) (row : List ℕ) → row ≡ rowOf u → (r q : Found) → Kept m m′ n row r → r ≡ q →
+pub adds-answer : (u : Node) → u .taken < 256 ^ patternBytes → (m m′ : List ℕ) (n : ℕ) (row : List ℕ) → row ≡ rowOf u → (r q : Found) → Kept m m′ n row r → r ≡ q →
     Adds (u .cells) (λ ts. nodeOf ts u ∷ []) m n m′ (countIn q)
-adds-answer u m m′ n row same r q kept e = record { stored = λ few. stored q (subst (Kept m m′ n (rowOf u)) e kept′) few; known = known }
+adds-answer u small m m′ n row same r q kept e = record { stored = λ few. stored q (subst (Kept m m′ n (rowOf u)) e kept′) few; known = known }
   where
     kept′ : Kept m m′ n (rowOf u) r
     kept′ = subst (λ (l : List ℕ). Kept m m′ n l r) same kept
@@ -186,4 +194,4 @@ adds-answer u m m′ n row same r q kept e = record { stored = λ few. stored q 
 
     known : (ts : Tasks) → Holding ts m n → Cells ts cellCount (u .cells) → Known ts (add sameNode (nodesIn ts m n) (nodeOf ts u)) m m′ (countIn q)
     known ts held fits =
-        subst (λ (a : Found). Known ts (add sameNode (nodesIn ts m n) (nodeOf ts u)) m m′ (countIn a)) e (known-kept ts u fits m m′ n held r kept′)
+        subst (λ (a : Found). Known ts (add sameNode (nodesIn ts m n) (nodeOf ts u)) m m′ (countIn a)) e (known-kept ts u fits small m m′ n held r kept′)

@@ -1,19 +1,21 @@
 -- The steps of the discovery, and its end. Assumes nothing.
 use mathlib.Core.Path.{_≡_, sym, ap, ap₂, subst, _∙_}
 use mathlib.Core.List.{List, map, foldl, List·Memᴰ}
-use Prim.Native.Nat.{ℕ, suc, _^_, _≤_, _<_}
+use Prim.Native.Nat.{ℕ, suc, _-_, _^_, _≤_, _<_}
 use native.Mathlib.Omega.{arith}
 use lib.ListN.{length, getD}
 use Rattle.model.specs.Discovery.{add}
 use Rattle.model.specs.Graph.{Node, Edge, start, edges, edgesAt, edgesTo, edgeOf, sameNode, targets, nodes}
-use Rattle.model.specs.Limits.{maxNodes, maxStates}
+use Rattle.model.specs.Limits.{maxNodes, maxStates, maxWindow}
 use Rattle.model.specs.Lists.{flatMap, upFrom}
+use Rattle.model.specs.Masks.{maskCount}
 use Rattle.model.specs.Plan.{Plan, nextIn, IsSound}
 use Rattle.model.specs.Walk.{Walk, here, go}
 use Rattle.model.proofs.Lists.{mem-getD}
 use Rattle.model.proofs.Discovery.{found-step, found-all, found-many}
 use Rattle.theory.proofs.Nodes.{same-node, explored, explored-reachable}
 use Rattle.theory.proofs.Edges.{mem-edges}
+use Rattle.theory.proofs.Patterns.{pattern-below}
 use Rattle.theory.proofs.Sound.{sound-plan, nextIn-arc}
 use Rattle.plan.specs.View.{arcsIn}
 use Rattle.policy.specs.View.{Tasks, cellCount, Cells, tasksIn, Ruled, PlanFor}
@@ -65,6 +67,10 @@ module _ (P : Plan) (s : IsSound P) where
   pub state-below : (k i : ℕ) → i < length (explored P k) → getD (explored P k) i start .state < maxStates
   state-below k i h = walk-state (explored-reachable P k (getD (explored P k) i start) (mem-getD (explored P k) i start h) .1) (omega arith)
 
+  -- and so within the bits of a mask
+  pub taken-below : (k i : ℕ) → i < length (explored P k) → getD (explored P k) i start .taken < maskCount
+  taken-below k i h = omega (arith, pattern-below P (maxWindow - 1) (λ t m. sound-plan P s .task t m .windowFits) k i h)
+
 -- one turn, for every plan with these rules and this table
 module _ (r : Rules) (ruled : Ruled r) (next first m : List ℕ) (known k : ℕ) (few : known ≤ maxNodes) (below : k < known)
     (held : (P : Plan) → Planned P r next → Known (tasksIn r) (explored P k) first m known) (u : graph.Node) (named : u ≡ nodeIn (rowAt m k)) where
@@ -80,6 +86,13 @@ module _ (r : Rules) (ruled : Ruled r) (next first m : List ℕ) (known k : ℕ)
       let state : u .state ≡ getD (explored P k) k start .state =
       ap (λ (v : graph.Node). v .state) named ∙ ap (λ (v : Node). v .state) (held-node (tasksIn r) m known (explored P k) nodes k below) in
       omega (arith, state-below P (p .sound) k k (omega (arith, held-count (tasksIn r) m known (explored P k) nodes)), state)
+
+  pub row-taken : (P : Plan) → Planned P r next → u .taken < maskCount
+  row-taken P p =
+      let nodes = held P p .held few .1 in
+      let taken : u .taken ≡ getD (explored P k) k start .taken =
+      ap (λ (v : graph.Node). v .taken) named ∙ ap (λ (v : Node). v .taken) (held-node (tasksIn r) m known (explored P k) nodes k below) in
+      omega (arith, taken-below P (p .sound) k k (omega (arith, held-count (tasksIn r) m known (explored P k) nodes)), taken)
 
   pub next-turn : (m′ : List ℕ) (q : ℕ) → Explored r (edgesBelow next (nodeOf (tasksIn r) u) (2 ^ r .count)) m known m′ q →
       (P : Plan) → Planned P r next → Known (tasksIn r) (explored P (suc k)) first m′ q

@@ -5,7 +5,7 @@ use mathlib.Core.Option.{Option, none, some}
 use mathlib.Core.List.{List, [], _∷_, _++_, map, foldl}
 use Prim.Native.Nat.{ℕ, _+_, _<_, _≤_}
 use lib.ListN.{length, getD, take}
-use Rattle.model.specs.Bytes.{Only}
+use Rattle.model.specs.Bytes.{number, bytes, part, Only}
 use Rattle.model.specs.Discovery.{add}
 use Rattle.model.specs.Graph as model
 use Rattle.model.specs.Graph.{sameNode}
@@ -23,19 +23,22 @@ use Rattle.discovery.specs.declared.Discovered.{Discovered}
 use Rattle.discovery.specs.declared.Discovered.the-variants.{TooMany, Nodes}
 use Rattle.store.specs.Store.{storeBytes, rowAt, rowsIn, Distinct, Indexed}
 
--- a node as a row: the cells, the pattern, the state
+abbrev pub patternBytes : ℕ
+patternBytes = 2
+
+-- a node as a row: the cells, two bytes of the pattern, the state
 abbrev pub rowOf : Node → List ℕ
-rowOf u = u .cells ++ (u .taken ∷ u .state ∷ [])
+rowOf u = u .cells ++ (bytes patternBytes (u .taken) ++ (u .state ∷ []))
 
 -- and back
 abbrev pub takenAt : ℕ
 takenAt = cellCount
 
 abbrev pub stateAt : ℕ
-stateAt = cellCount + 1
+stateAt = takenAt + patternBytes
 
 abbrev pub nodeIn : List ℕ → Node
-nodeIn row = record { cells = take cellCount row; taken = getD row takenAt 0; state = getD row stateAt 0 }
+nodeIn row = record { cells = take cellCount row; taken = number (part row takenAt patternBytes); state = getD row stateAt 0 }
 
 -- the node of the model that a row stands for
 abbrev pub viewOf : Tasks → List ℕ → model.Node
@@ -45,11 +48,12 @@ viewOf ts row = nodeOf ts (nodeIn row)
 unfoldable pub nodesIn : Tasks → List ℕ → ℕ → List model.Node
 nodesIn ts memory n = map (viewOf ts) (rowsIn memory n)
 
--- n distinct rows of nodes whose cells a node can hold, and their index
+-- n distinct rows of nodes whose cells a node can hold, each that of its node, and their index
 pub record Holding (ts : Tasks) (memory : List ℕ) (n : ℕ) : Type 0 where
   pub index : Indexed memory n
   pub distinct : Distinct (rowsIn memory n)
   pub cells : (j : ℕ) → j < n → Cells ts cellCount (nodeIn (rowAt memory j) .cells)
+  pub rows : (j : ℕ) → j < n → rowOf (nodeIn (rowAt memory j)) ≡ rowAt memory j
 
 -- the number of nodes where there are too many, and the number after an answer
 abbrev pub tooMany : ℕ

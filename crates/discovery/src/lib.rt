@@ -9,6 +9,7 @@ ghost use Prim.Native.Nat.{_^_, _<_, _≤_};
 ghost use mathlib.Core.Option.{some};
 ghost use Rattle.model.specs.Graph.{edgesTo, nodes};
 ghost use Rattle.model.specs.Limits.{maxStates};
+ghost use Rattle.model.specs.Masks.{maskCount};
 ghost use Rattle.model.specs.Plan.{Plan};
 ghost use Rattle.policy.specs.View.{cellCount, Cells, tasksIn, Ruled};
 ghost use Rattle.graph.specs.Outcomes.{noteRoom, NotesFree};
@@ -20,7 +21,7 @@ ghost use Rattle.discovery.specs.Discovery.{rowOf, nodeIn, Stored, Adds,
 // Where the pattern and the state stand in a row, behind the cells.
 const TAKEN: usize = policy::CELLS;
 
-const STATE: usize = policy::CELLS + 1;
+const STATE: usize = TAKEN + 2;
 
 // Where edges leave: a node with its number, and their label.
 pub struct Source {
@@ -37,7 +38,7 @@ pub fn row_of(node: Node) -> [u8; store::ROW_BYTES]
     let cells = node.cells;
     let mut row = [0u8; store::ROW_BYTES];
     words::copy(&cells, 0, &mut row, 0, policy::CELLS);
-    row[TAKEN] = node.taken;
+    words::write_u16(&mut row, TAKEN, node.taken);
     row[STATE] = node.state;
     row
 }
@@ -49,9 +50,10 @@ pub fn node_of(row: [u8; store::ROW_BYTES]) -> Node
 {
     let mut cells = [0u8; policy::CELLS];
     words::copy(&row, 0, &mut cells, 0, policy::CELLS);
+    let taken = words::read_u16(&row, TAKEN);
     Node {
         cells,
-        taken: row[TAKEN],
+        taken,
         state: row[STATE],
     }
 }
@@ -76,7 +78,7 @@ fn add_node(m: &mut [u8], n: usize, node: Node) -> usize
 fn add_outcomes(
     m: &mut [u8],
     n: usize,
-    notes: &[u8],
+    notes: &[u32; graph::NOTE_ROOM],
     count: usize,
     cells: [u8; policy::CELLS],
     state: u8,
@@ -116,17 +118,17 @@ fn explore_label(
     rules: Rules,
     from: Departure,
     state: u8,
-    notes: &mut [u8],
+    notes: &mut [u32; graph::NOTE_ROOM],
     m: &mut [u8],
     n: usize,
 ) -> usize
-    requires { ⌜ Ruled rules × Cells (tasksIn rules) cellCount (from .node .cells) ⌝ }
+    requires { ⌜ Ruled rules × Cells (tasksIn rules) cellCount (from .node .cells) × (from .node .taken < maskCount) ⌝ }
     requires { ⌜ Holding (tasksIn rules) (now m) n × (noteRoom ≤ length (now notes)) ⌝ }
     ensures { λ r. ⌜ Explored rules (λ P. edgesTo P (nodeOf (tasksIn rules) (from .node)) (from .label) (some state)) (now (m .entry)) n (now (m .exit)) r ⌝ }
     ensures { λ _. ⌜ NotesFree (now (notes .entry)) (now (notes .exit)) ⌝ }
 {
     let node = from.node;
-    let noted = graph::reach(rules, node, from.label, notes);
+    let noted = graph::reach(rules, node, from.label, graph::NO_PATTERN, notes);
     let count = noted.count;
     let done = noted.done;
     let cells = done.cells;
@@ -138,11 +140,11 @@ fn follow_label(
     next: &[u8; plan::PAIRS],
     rules: Rules,
     from: Departure,
-    notes: &mut [u8],
+    notes: &mut [u32; graph::NOTE_ROOM],
     m: &mut [u8],
     n: usize,
 ) -> usize
-    requires { ⌜ Ruled rules × Cells (tasksIn rules) cellCount (from .node .cells) × (from .node .state < maxStates) ⌝ }
+    requires { ⌜ Ruled rules × Cells (tasksIn rules) cellCount (from .node .cells) × (from .node .state < maxStates) × (from .node .taken < maskCount) ⌝ }
     requires { ⌜ Holding (tasksIn rules) (now m) n × (noteRoom ≤ length (now notes)) ⌝ }
     ensures { λ r. ⌜ Explored rules (edgesBy (now (next .entry)) (nodeOf (tasksIn rules) (from .node)) (from .label)) (now (m .entry)) n (now (m .exit)) r ⌝ }
     ensures { λ _. ⌜ NotesFree (now (notes .entry)) (now (notes .exit)) ⌝ }
@@ -160,11 +162,11 @@ fn explore_node(
     next: &[u8; plan::PAIRS],
     rules: Rules,
     node: Node,
-    notes: &mut [u8],
+    notes: &mut [u32; graph::NOTE_ROOM],
     m: &mut [u8],
     n: usize,
 ) -> usize
-    requires { ⌜ Ruled rules × Cells (tasksIn rules) cellCount (node .cells) × (node .state < maxStates) ⌝ }
+    requires { ⌜ Ruled rules × Cells (tasksIn rules) cellCount (node .cells) × (node .state < maxStates) × (node .taken < maskCount) ⌝ }
     requires { ⌜ Holding (tasksIn rules) (now m) n × (noteRoom ≤ length (now notes)) ⌝ }
     ensures { λ r. ⌜ Explored rules (edgesBelow (now (next .entry)) (nodeOf (tasksIn rules) node) (2 ^ rules .count)) (now (m .entry)) n (now (m .exit)) r ⌝ }
     ensures { λ _. ⌜ NotesFree (now (notes .entry)) (now (notes .exit)) ⌝ }
@@ -187,7 +189,7 @@ fn explore_node(
 fn explore_all(
     next: &[u8; plan::PAIRS],
     rules: Rules,
-    notes: &mut [u8],
+    notes: &mut [u32; graph::NOTE_ROOM],
     m: &mut [u8],
     n: usize,
 ) -> usize
@@ -219,7 +221,7 @@ pub enum Discovered {
 pub fn discover(
     next: &[u8; plan::PAIRS],
     rules: Rules,
-    notes: &mut [u8],
+    notes: &mut [u32; graph::NOTE_ROOM],
     m: &mut [u8],
 ) -> Discovered
     requires { ⌜ Ruled rules × Planning rules (now next) ⌝ }

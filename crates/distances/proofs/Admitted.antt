@@ -46,7 +46,7 @@ module _ {P : Plan} {r : Rules} {next m : List ℕ} {prices : Prices} {u : ℕ} 
   out = record { number = u; label = l; count = d .count; cells = d .done .cells; state = to - 1; kept = d .done .gain }
 
   -- the weight of a noted edge
-  noted-weight : {v p : ℕ} (b : NotedBest P u l v notes d p) →
+  noted-weight : {v p : ℕ} (b : NotedBest P u l v (t .wanted) notes d p) →
       weight (prices .p) (prices .q) (b .edge) ≡ pos (prices .q * d .done .gain) -ℤ pos (prices .p * gainIn notes (d .count) p)
   noted-weight {p = p} b =
       let gain : b .edge .ideal ≡ gainIn notes (d .count) p = omega (arith, b .ideal) in

@@ -2,26 +2,30 @@
 use mathlib.Core.Path.{_≡_, refl, sym, ap, subst, _∙_}
 use mathlib.Core.Bool.{Bool, true, false, cond, true≢false}
 use mathlib.Core.List.{List}
-use Prim.Native.Nat.{ℕ, zero, suc, _+_, _*_, _<_, _≤_}
-use native.Mathlib.Nat.{zero-add, mul-le-mul, mul-le-mul-right}
+use Prim.Native.Nat.{ℕ, zero, suc, _+_, _<_, _≤_}
+use native.Mathlib.Nat.{zero-add}
 use native.Mathlib.Omega.{arith}
+use borrow.Author.Tests.{lt-ltb}
 use Rattle.model.specs.Limits.{maxNodes}
-use Rattle.model.specs.Passes.{Distances, unmoved, pass, last, more}
+use Rattle.model.specs.Graph.{nodes}
+use Rattle.model.specs.Passes.{Distances, beginning, unmoved, pass, last, more}
 use Rattle.model.specs.Plan.{Plan}
 use Rattle.theory.specs.Lightest.{maxWeight}
-use Rattle.theory.specs.Search.{Quiet, remaining}
-use Rattle.theory.proofs.Circuits.{lightest-within}
+use Rattle.theory.specs.Search.{distancesOf, Quiet, Search, remaining}
 use Rattle.theory.proofs.Passes.{unmoved-same}
-use Rattle.theory.proofs.Search.{remaining-most}
+use Rattle.theory.proofs.Settled.{settled-few}
 use Rattle.theory.proofs.Searched.{told-still, told-moved}
 use Rattle.theory.proofs.Sound.{sound-plan}
+use Rattle.policy.specs.View.{tasksIn}
 use Rattle.policy.specs.declared.Rules.{Rules}
+use Rattle.discovery.proofs.Held.{held-count}
+use Rattle.potentials.proofs.Numbers.{nodes-few}
 use Rattle.distances.specs.declared.Prices.{Prices}
 use Rattle.model.specs.Bytes.{Only}
 use Rattle.links.specs.Links.{linksAt, linksSize, stepsSize, stateIn, Begins}
 use Rattle.words.proofs.Free.{only-refl, only-trans}
 use Rattle.distances.specs.declared.Tried.{Tried}
-use Rattle.distances.specs.Distances.{LinkOf, knownDistances, PassesAt, SearchIn, Priced, Sought, Turned, Passes, Settles}
+use Rattle.distances.specs.Distances.{LinkOf, knownDistances, PassesAt, SearchIn, Priced, Sought, Turned, Passes, oneMore, Settles}
 use Rattle.distances.proofs.Rows.{only-both, priced-kept}
 use Rattle.distances.proofs.Marks.{begin-search, begin-found}
 use Rattle.distances.proofs.Taken.{nodes-some}
@@ -49,24 +53,16 @@ module _ {P : Plan} {prices : Prices} where
       by true f = let less = q .advance .progress (steps-none f) .less f in omega arith
       by false f = omega arith
 
-  -- and what is ahead has a bound
-  pub ahead-most : {m : List ℕ} {r : Rules} {next : List ℕ} → Sought P r next m prices →
-      ahead (prices .n) m true ≤ maxNodes * (2 * (maxNodes * maxWeight) + 1) + 1
-  ahead-most {m} s =
-      let few = s .priced .holds .rows .index .few in
-      let most = remaining-most (LinkOf P prices) (s .search) (lightest-within P (sound-plan P (s .priced .planned .sound)) (prices .p) (prices .q) (prices .n) (s .priced .fraction)) in
-      let wide : 2 * (prices .n * maxWeight) + 1 ≤ 2 * (maxNodes * maxWeight) + 1 = omega (arith, mul-le-mul-right maxWeight few) in
-      omega (arith, most, mul-le-mul few wide)
-
--- after so many passes: a search, at rest where nothing has moved; or a circuit
+-- after a number of passes, told as far as a plan may have nodes: a search, at rest where nothing has moved; or a circuit
 pub record Passed (P : Plan) (prices : Prices) (before after : List ℕ) (moved : Bool) (steps passes : ℕ) : Type 0 where
   pub search : steps ≡ 0 → SearchIn P prices after
   pub rest : steps ≡ 0 → moved ≡ false → Quiet (prices .n) (stateIn after)
   pub links : steps ≡ 0 → Only linksAt linksSize before after
+  pub number : ℕ
+  pub told : number ≤ maxNodes → passes ≡ number
   pub onward : moved ≡ true → {es : Distances} {k : ℕ} → PassesAt P prices (knownDistances prices after) es k →
-      PassesAt P prices (knownDistances prices before) es (passes + k)
-  pub ended : steps ≡ 0 → moved ≡ false → PassesAt P prices (knownDistances prices before) (knownDistances prices after) passes
-  pub bound : passes + ahead (prices .n) after moved ≤ ahead (prices .n) before true
+      PassesAt P prices (knownDistances prices before) es (number + k)
+  pub ended : steps ≡ 0 → moved ≡ false → PassesAt P prices (knownDistances prices before) (knownDistances prices after) number
   pub circuit : 0 < steps → Turned P prices after steps × (moved ≡ false)
   pub only : Only linksAt (linksSize + stepsSize) before after
 
@@ -78,7 +74,8 @@ module _ {P : Plan} {prices : Prices} where
     rest = λ e f. absurd (true≢false f);
     onward = λ e {es} {k} p. subst (PassesAt P prices (knownDistances prices m) es) (sym (zero-add k)) p;
     ended = λ e f. absurd (true≢false f);
-    bound = omega arith;
+    number = 0;
+    told = λ e. refl;
     links = λ e. only-refl;
     circuit = λ h. absurd (omega arith);
     only = only-refl;
@@ -92,11 +89,13 @@ module _ {P : Plan} {prices : Prices} where
     pub passed-sought : {r : Rules} {next : List ℕ} → Sought P r next m prices → moved ≡ true → Sought P r next m′ prices
     passed-sought s e = record { priced = priced-kept (p .only) (s .priced); search = p .search (no-steps e) }
 
-    -- one more pass is within the bound
-    pub passed-less : moved ≡ true → passes < ahead (prices .n) m true
-    passed-less e = omega (arith, p .bound, ap (ahead (prices .n) m′) e)
+    -- one more pass is told
+    told-more : p .number + 1 ≤ maxNodes → oneMore passes ≡ p .number + 1
+    told-more h =
+        let same = p .told (omega arith) in
+        ap (λ (b : Bool). cond b (passes + 1) passes) (lt-ltb passes maxNodes (omega arith)) ∙ omega arith
 
-    pub passed-more : {m″ : List ℕ} {t : Tried} → moved ≡ true → Passes P prices m′ m″ t → Passed P prices m m″ (t .moved) (t .steps) (passes + 1)
+    pub passed-more : {m″ : List ℕ} {t : Tried} → moved ≡ true → Passes P prices m′ m″ t → Passed P prices m m″ (t .moved) (t .steps) (oneMore passes)
     passed-more {m″} {t} e q = record {
       search = λ f. q .advance .progress f .search;
       rest = q .quiet;
@@ -108,8 +107,9 @@ module _ {P : Plan} {prices : Prices} where
       ended = λ none f.
           let same = told-still (prices .n) (stateIn m′) (stateIn m″) (q .advance .progress none .still f) in
           let end = last (unmoved-same (knownDistances prices m′) (pass P (prices .p) (prices .q) (knownDistances prices m′)) .1 (sym (q .passed none ∙ same))) in
-          subst (λ ds. PassesAt P prices (knownDistances prices m) ds (passes + 1)) (sym same) (p .onward e end);
-      bound = omega (arith, p .bound, pass-less e q);
+          subst (λ ds. PassesAt P prices (knownDistances prices m) ds (p .number + 1)) (sym same) (p .onward e end);
+      number = p .number + 1;
+      told = told-more;
       links = λ f. only-trans (p .links (no-steps e)) (q .advance .links f);
       circuit = q .advance .circuit;
       only = only-trans (p .only) (q .advance .only);
@@ -126,10 +126,27 @@ module _ {P : Plan} {prices : Prices} where
     -- the end: nothing has moved
     pub passed-end : {r : Rules} {next m″ : List ℕ} {moved : Bool} {steps passes : ℕ} → Priced P r next m prices → Passed P prices m′ m″ moved steps passes → moved ≡ false →
         Settles P prices m m″ (record { steps = steps; passes = passes })
-    passed-end {m″ = m″} {passes = passes} priced p e = record {
+    passed-end {r = r} {m″ = m″} {steps = steps} priced p e = record {
       search = λ f. (p .search f, p .rest f e);
-      passes = λ f. subst (λ ds. PassesAt P prices ds (knownDistances prices m″) passes) (begin-found (priced .holds .rows .index .few) b (nodes-some priced)) (p .ended f e);
+      passes = λ f. subst (PassesAt P prices (beginning (prices .n)) (knownDistances prices m″)) (sym (p .told (few f))) (passed f);
       links = λ f. only-trans (b .only) (p .links f);
       circuit = λ h. p .circuit h .0;
       only = only-trans (only-both (b .only)) (p .only);
     }
+      where
+        passed : steps ≡ 0 → PassesAt P prices (beginning (prices .n)) (knownDistances prices m″) (p .number)
+        passed f = subst (λ ds. PassesAt P prices ds (knownDistances prices m″) (p .number)) (begin-found (priced .holds .rows .index .few) b (nodes-some priced)) (p .ended f e)
+
+        -- there are no more than nodes
+        few : steps ≡ 0 → p .number ≤ maxNodes
+        few f =
+            let n = held-count (tasksIn r) m (prices .n) (nodes P) (priced .holds .nodes) in
+            omega (
+              arith,
+              priced .holds .rows .index .few,
+              n,
+              settled-few P (sound-plan P (priced .planned .sound)) (nodes-few P (tasksIn r) m (prices .n) (priced .holds))
+                  (subst (λ (k : ℕ). Search (LinkOf P prices) k maxWeight (stateIn m″)) (sym n) (p .search f))
+                  (subst (λ (k : ℕ). Quiet k (stateIn m″)) (sym n) (p .rest f e))
+                  (subst (λ (k : ℕ). PassesAt P prices (beginning k) (distancesOf k (stateIn m″)) (p .number)) (sym n) (passed f)),
+            )

@@ -14,7 +14,7 @@ use Rattle.node.specs.declared.Node.{Node}
 use Rattle.store.specs.Store.{rowBytes, maxRows, hashes, bucketsAt, chainAt, rowAt, rowsIn, hashOf, hashAt, lastOf, entryAt, Distinct, Indexed}
 use Rattle.store.proofs.Index.{last-same}
 use Rattle.store.proofs.Rows.{rows-same}
-use Rattle.discovery.specs.Discovery.{nodeIn, viewOf, nodesIn, Holding, Holds}
+use Rattle.discovery.specs.Discovery.{rowOf, nodeIn, viewOf, nodesIn, Holding, Holds}
 use Rattle.distances.specs.declared.Prices.{Prices}
 use Rattle.potentials.specs.Potentials.{Numbered}
 use Rattle.links.specs.Links.{linksAt, linksSize, stepsSize, stepPlace, takenIn, takenOf, firstSteps}
@@ -72,6 +72,7 @@ module _ {k : ℕ} {m m′ : List ℕ} (o : Only linksAt k m m′) where
     distinct = distinct-kept (h .index .few) (h .distinct);
     cells = λ j below.
         subst (λ (r : List ℕ). Cells ts cellCount (nodeIn r .cells)) (sym (row-kept j (omega (arith, h .index .few)))) (h .cells j below);
+    rows = λ j below. subst (λ (r : List ℕ). rowOf (nodeIn r) ≡ r) (sym (row-kept j (omega (arith, h .index .few)))) (h .rows j below);
   }
 
   pub holds-kept : {P : Plan} {ts : Tasks} {n : ℕ} → Holds P ts m n → Holds P ts m′ n

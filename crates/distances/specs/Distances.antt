@@ -1,9 +1,10 @@
 -- The search for the distances of a plan's nodes at a fraction, in lent memory.
 use mathlib.Core.Path.{_≡_}
-use mathlib.Core.Bool.{true, false}
+use mathlib.Core.Bool.{true, false, cond}
 use mathlib.Core.List.{List}
 use Prim.Native.Nat.{ℕ, _+_, _*_, _<_, _≤_}
 use lib.IntN.{ℤ, pos, _+ℤ_, _-ℤ_}
+use lib.Dec.{ltb}
 use lib.ListN.{length}
 use lib.Signed.{_≤ℤ_}
 use Rattle.model.specs.Check.{fractionOk}
@@ -192,6 +193,10 @@ pub record Passes (P : Plan) (prices : Prices) (before after : List ℕ) (t : Tr
   pub quiet : t .steps ≡ 0 → t .moved ≡ false → Quiet (prices .n) (stateIn after)
 
 -- ---- the whole search
+
+-- one pass more, counted as far as a plan may have nodes
+abbrev pub oneMore : ℕ → ℕ
+oneMore k = cond (ltb k maxNodes) (k + 1) k
 
 -- a circuit, and the number of passes is free; or, without steps, a search at rest after this number of passes, and every byte of no link is
 -- as it was

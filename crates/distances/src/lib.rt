@@ -16,7 +16,7 @@ ghost use Rattle.policy.specs.View.{Ruled};
 ghost use Rattle.graph.specs.Outcomes.{noteRoom, NotesFree};
 ghost use Rattle.potentials.specs.Potentials.{Numbered};
 ghost use Rattle.links.specs.Links.{unknown, stateIn};
-ghost use Rattle.distances.specs.Distances.{Priced, Pricing, Sought, Seeking, Offer, Offered, Relaxes, highOf, Offers, Offering, RelaxesOne, RelaxesAll, RelaxesLabel, RelaxesNode, Passes, Settles};
+ghost use Rattle.distances.specs.Distances.{Priced, Pricing, Sought, Seeking, Offer, Offered, Relaxes, highOf, Offers, Offering, RelaxesOne, RelaxesAll, RelaxesLabel, RelaxesNode, Passes, oneMore, Settles};
 
 // What the search charges for both gains, q for the policy's and p for the clairvoyant's, and the number of nodes.
 pub struct Prices {
@@ -97,7 +97,7 @@ fn relax_outcome(
     out: Outcomes,
     high: i64,
     k: usize,
-    notes: &[u8],
+    notes: &[u32; graph::NOTE_ROOM],
     m: &mut [u8],
 ) -> Tried
     requires { ⌜ Offering prices (now m) (now notes) out × (k < out .count) × (high ≡ highOf prices (now m) out) ⌝ }
@@ -117,7 +117,12 @@ fn relax_outcome(
 }
 
 // Tries the noted outcomes of a label.
-fn relax_outcomes(prices: Prices, out: Outcomes, notes: &[u8], m: &mut [u8]) -> Tried
+fn relax_outcomes(
+    prices: Prices,
+    out: Outcomes,
+    notes: &[u32; graph::NOTE_ROOM],
+    m: &mut [u8],
+) -> Tried
     requires { ⌜ Offering prices (now m) (now notes) out ⌝ }
     ensures { λ t. ⌜ ((P : Plan) → Offers P prices (now (m .entry)) (now (notes .entry)) out → RelaxesAll P prices out (now (notes .entry)) (now (m .entry)) (now (m .exit)) t) ⌝ }
 {
@@ -143,7 +148,7 @@ fn relax_label(
     next: &[u8; plan::PAIRS],
     rules: Rules,
     source: Source,
-    notes: &mut [u8],
+    notes: &mut [u32; graph::NOTE_ROOM],
     m: &mut [u8],
 ) -> Tried
     requires { ⌜ Ruled rules × Seeking rules (now next) (now m) prices × Numbered (now m) (prices .n) (source .number) (source .node) × (stateIn (now m) .known (source .number) ≡ true) × (noteRoom ≤ length (now notes)) ⌝ }
@@ -159,7 +164,7 @@ fn relax_label(
             steps: 0,
         };
     }
-    let noted = graph::reach(rules, node, label, notes);
+    let noted = graph::reach(rules, node, label, graph::NO_PATTERN, notes);
     let done = noted.done;
     let cells = done.cells;
     let out = Outcomes {
@@ -179,7 +184,7 @@ fn relax_node(
     next: &[u8; plan::PAIRS],
     rules: Rules,
     u: usize,
-    notes: &mut [u8],
+    notes: &mut [u32; graph::NOTE_ROOM],
     m: &mut [u8],
 ) -> Tried
     requires { ⌜ Ruled rules × Seeking rules (now next) (now m) prices × (u < prices .n) × (noteRoom ≤ length (now notes)) ⌝ }
@@ -217,7 +222,7 @@ fn pass(
     prices: Prices,
     next: &[u8; plan::PAIRS],
     rules: Rules,
-    notes: &mut [u8],
+    notes: &mut [u32; graph::NOTE_ROOM],
     m: &mut [u8],
 ) -> Tried
     requires { ⌜ Ruled rules × Seeking rules (now next) (now m) prices × (noteRoom ≤ length (now notes)) ⌝ }
@@ -238,12 +243,22 @@ fn pass(
     Tried { moved, steps: 0 }
 }
 
+// One pass more, counted as far as a plan may have nodes: a search that comes to rest has no more passes than nodes.
+fn counted(passes: usize) -> usize
+    ensures { λ r. ⌜ r ≡ oneMore passes ⌝ }
+{
+    if passes < Node::MAX_NODES {
+        return passes + 1;
+    }
+    passes
+}
+
 // Finds the distances of all nodes, and gives the number of passes; or a cycle that costs less than 0.
 pub fn settle(
     prices: Prices,
     next: &[u8; plan::PAIRS],
     rules: Rules,
-    notes: &mut [u8],
+    notes: &mut [u32; graph::NOTE_ROOM],
     m: &mut [u8],
 ) -> Settled
     requires { ⌜ Ruled rules × Pricing rules (now next) (now m) prices × (noteRoom ≤ length (now notes)) ⌝ }
@@ -258,7 +273,7 @@ pub fn settle(
         let tried = pass(prices, next, rules, notes, m);
         moved = tried.moved;
         steps = tried.steps;
-        passes += 1;
+        passes = counted(passes);
     }
     Settled { steps, passes }
 }

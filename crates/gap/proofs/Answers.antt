@@ -8,7 +8,8 @@ use native.Mathlib.Omega.{arith}
 use lib.ListN.{length}
 use Rattle.model.specs.Bytes.{overwrite}
 use Rattle.model.specs.Calls.{Writing, refuses, writes, withPlan}
-use Rattle.model.specs.Limits.{maxGap, planRoom}
+use Rattle.model.specs.Limits.{maxGap}
+use Rattle.model.specs.Edition.{planRoom}
 use Rattle.model.specs.Refusals.{badGap, shortMemory}
 use Rattle.model.specs.Plan as model
 use Rattle.model.specs.Plan.{PlanAnswer, between, readPlan}

@@ -1,228 +1,147 @@
--- The outcomes of a label's choices, task by task and mask by mask, and how they are noted one after another.
+-- How the outcomes that a label offers are noted, task by task and mask by mask.
 -- Assumes nothing.
-use mathlib.Core.Path.{_≡_, refl, sym, _∙_, ap, ap₂}
-use mathlib.Core.Bool.{Bool, true, false}
-use mathlib.Core.List.{List, [], _∷_, _++_, map, map-map, foldl, foldl-append}
-use Prim.Native.Nat.{ℕ, zero, suc, _+_, _-_, _/_, _%_, _^_, _<_, _≤_}
-use native.Mathlib.Nat.{add-zero, zero-add, add-assoc, div-one}
+use mathlib.Core.Path.{_≡_, refl, sym, _∙_, ap, ap₂, subst}
+use mathlib.Core.Logic.{inl, inr}
+use mathlib.Core.List.{List, [], _∷_, _++_, foldl, foldl-append}
+use Prim.Native.Nat.{ℕ, suc, _+_, _-_, _*_, _/_, _^_, _<_, _≤_}
+use native.Mathlib.Nat.{pow-suc, pow-le-pow-right}
 use native.Mathlib.Numerals.{add-one}
 use native.Mathlib.Omega.{arith}
-use lib.Bits.{bitAnd, bitOr, and-zero-l}
-use lib.Dec.{eqb}
-use lib.ListN.{length, getD, take, drop, replicate, length-append, drop-of-length-le}
-use lib.Pow.{shr-shr, suc-ones}
-use lib.Seq.{drop-cons, set-append-seam, append-snoc}
-use borrow.Author.Tests.{eq-eqb, ne-eqb}
-use Rattle.model.specs.Bytes.{part}
-use Rattle.model.specs.Graph.{choices, joined, worth}
+use lib.Bits.{bitOr, or-lt}
+use lib.Dec.{lit<}
+use lib.ListN.{length, getD, drop}
+use lib.Seq.{drop-cons, getD-take, getD-drop}
+use Rattle.model.specs.Bytes.{part, Only}
 use Rattle.model.specs.Limits.{maxTasks, maxWindow}
-use Rattle.model.specs.Lists.{consIf, keep, flatMap, upFrom, ones}
-use Rattle.model.specs.Masks.{maskCount, group, groupsBelow, maskTable, groupStart, masksOf}
-use Rattle.model.specs.Plan.{Task}
-use Rattle.model.specs.Slot.{noTask}
-use Rattle.theory.proofs.Bits.{ones-below}
-use Rattle.model.proofs.Lists.{keep-keep, keep-same, mem-of-upFrom, map-same, flatMap-append, mem-of-flatMap, mem-getD}
-use Rattle.words.proofs.Free.{only-refl, only-trans}
-use Rattle.masks.specs.Clear.{NextClear}
-use Rattle.masks.proofs.Groups.{groupBelow, length-table, mem-group, group-below, group-below-le, groupStart-le, group-below-from-one}
-use Rattle.theory.proofs.Edges.{mem-choices}
-use Rattle.policy.specs.View.{Tasks, InRange}
-use Rattle.policy.proofs.Lists.{map-flatMap}
-use Rattle.graph.specs.Outcomes.{Outcome, note, notesIn, Room, Noting, tasksReleased, Released, chosenWith, outcomeIn, outcomeOf, outcomes, placed, outcomeFrom, outcomesFrom, outcomesWith, clearIn, nextOutcomes, maskOutcomes}
-use Rattle.graph.specs.declared.Release.{Release}
-use Rattle.graph.specs.declared.Chosen.{Chosen}
+use Rattle.model.specs.Masks.{maskCount}
+use Rattle.words.specs.Packed.{fieldBase}
+use Rattle.words.proofs.Memory.{part-ext}
+use Rattle.masks.specs.Clear.{clearIn, ListsClear}
+use Rattle.masks.proofs.Clear.{clear-low}
+use Rattle.graph.specs.Outcomes.{patternCount, Outcome, outcomeIn, note, notedMasksAt, orderAt, listsAt, listPlace, noteRoom, scoreAt, wordBase, patternIn, notesIn, Tallied, Room, Keeps, Noting}
+use Rattle.graph.specs.Offers.{spanStartIn, spanEndIn, valueIn, taskCount, OffersFit, offered, offeredWith, Carries, Listed}
+use Rattle.graph.proofs.Notes.{few, keeps-refl, keeps-trans, keeps-fewer}
+use Rattle.graph.proofs.Tables.{table-same}
 
 -- ---- noting one list of outcomes after another
 
-pub noting-none : (m : List ℕ) (n : ℕ) → Room m n → Noting [] m n m n
-noting-none m n r = record { notes = refl; only = only-refl; room = r }
+pub noting-none : (wanted place : ℕ) (m : List ℕ) (n : ℕ) → Room m n → Noting wanted [] place m n m n
+noting-none wanted place m n r = record { notes = refl; keeps = keeps-refl; room = r }
 
-pub noting-append : (os os′ : List Outcome) (m₀ : List ℕ) (n₀ : ℕ) (m₁ : List ℕ) (n₁ : ℕ) (m₂ : List ℕ) (n₂ : ℕ)
-    → Noting os m₀ n₀ m₁ n₁ → Noting os′ m₁ n₁ m₂ n₂ → Noting (os ++ os′) m₀ n₀ m₂ n₂
-noting-append os os′ m₀ n₀ m₁ n₁ m₂ n₂ a b = record {
-  notes = b .notes ∙ ap (λ n. foldl note n os′) (a .notes) ∙ sym (foldl-append note (notesIn m₀ n₀) os os′);
-  only = only-trans (a .only) (b .only);
+pub noting-append : (wanted place : ℕ) (os os′ : List Outcome) (m₀ : List ℕ) (n₀ : ℕ) (m₁ : List ℕ) (n₁ : ℕ) (m₂ : List ℕ) (n₂ : ℕ)
+    → Noting wanted os place m₀ n₀ m₁ n₁ → Noting wanted os′ place m₁ n₁ m₂ n₂ → Noting wanted (os ++ os′) place m₀ n₀ m₂ n₂
+noting-append wanted place os os′ m₀ n₀ m₁ n₁ m₂ n₂ a b = record {
+  notes = b .notes ∙ ap (λ n. foldl (note wanted) n os′) (a .notes) ∙ sym (foldl-append (note wanted) (notesIn m₀ n₀) os os′);
+  keeps = keeps-trans (a .keeps) (b .keeps);
   room = b .room;
 }
 
--- ---- the masks of the table
+-- with fewer lists kept
+pub noting-fewer : {wanted place : ℕ} {os : List Outcome} {m₀ : List ℕ} {n₀ : ℕ} {m₁ : List ℕ} {n₁ : ℕ} (place′ : ℕ) → place′ ≤ place
+    → Noting wanted os place m₀ n₀ m₁ n₁ → Noting wanted os place′ m₀ n₀ m₁ n₁
+noting-fewer place′ le a = record { notes = a .notes; keeps = keeps-fewer (a .keeps) place′ le; room = a .room }
 
--- an entry of the table is a mask
-pub mask-low : (i : ℕ) → i < maskCount → getD maskTable i 0 < maskCount
-unfolding maskTable groupsBelow
-mask-low i h =
-    let r = mem-of-flatMap group (upFrom 0 (suc maxWindow)) (mem-getD maskTable i 0 (omega (arith, length-table))) in
-    mem-group (r .0) (getD maskTable i 0) .0 (r .2) .0
+-- ---- lists change no notes
 
--- a group's masks below bit D end within the table
-pub group-end-low : (w D : ℕ) → w ≤ maxWindow → groupStart w + length (groupBelow D w) ≤ maskCount
-group-end-low w D h = omega (arith, group-below-le w h D, groupStart-le w h)
+-- notes that stand before the lists
+same-notes : (m m′ : List ℕ) (count : ℕ) → orderAt + count ≤ listsAt → ((i : ℕ) → i < listsAt → getD m′ i 0 ≡ getD m i 0) → notesIn m′ count ≡ notesIn m count
+unfolding notesIn
+same-notes m m′ count few same = λ i. record {
+  scores = table-same (scoreAt m) (scoreAt m′) patternCount (λ k h. same k (omega arith)) i;
+  masks = ap₂ (λ (a b : ℕ). a * wordBase + b) (same notedMasksAt (omega arith)) (same (notedMasksAt + 1) (omega arith)) i;
+  order = table-same (patternIn m) (patternIn m′) count (λ k h. same (orderAt + k) (omega arith)) i;
+}
 
-module _ (taken : ℕ) where
-  clear : ℕ → Bool
-  clear m = eqb (bitAnd m taken) 0
+pub list-noting : (wanted : ℕ) (m m′ : List ℕ) (from k count : ℕ) → listsAt ≤ from → from + k ≤ noteRoom → Only from k m m′ → Room m count
+    → Noting wanted [] from m count m′ count
+list-noting wanted m m′ from k count behind inside o r =
+    let same = same-notes m m′ count (omega (arith, few m count r)) (λ i h. o .others i (inl (omega arith))) in
+    record {
+      notes = same;
+      keeps = record { long = o .long; lists = λ i h lt. o .others i (inl lt); behind = λ i h. o .others i (inr (omega arith)) };
+      room = record { room = omega (arith, r .room, o .long); tallied = subst Tallied (sym same) (r .tallied) };
+    }
 
-  clear-none : (at end : ℕ) → at ≡ end → clearIn taken at end ≡ []
-  unfolding clearIn
-  clear-none at end e = let z : end - at ≡ 0 = omega arith in rw z
+-- ---- the steps of the recursion
 
-  clear-more : (at end : ℕ) → at < end → end ≤ maskCount
-      → clearIn taken at end ≡ consIf (clear (getD maskTable at 0)) (getD maskTable at 0) (clearIn taken (at + 1) end)
-  unfolding clearIn clear
-  clear-more at end lt le =
-      let n : end - at ≡ suc (end - (at + 1)) = omega arith in
-      rw (n, drop-cons maskTable at 0 (omega (arith, length-table)), ← add-one at)
+-- no task is left
+pub offered-last : (offers : List ℕ) (i p g x : ℕ) → i ≡ taskCount offers → offered offers (taskCount offers - i) i p g x ≡ outcomeIn (p / 2) g x ∷ []
+unfolding offered
+offered-last offers i p g x e = let z : taskCount offers - i ≡ 0 = omega arith in rw z
 
-  -- 0 is the first mask of the table
-  clear-zero : clearIn taken 0 1 ≡ 0 ∷ []
-  unfolding clearIn maskTable groupsBelow group
-  clear-zero = rw (and-zero-l taken)
+-- no mask for the next task, and then its masks
+pub offered-next : (offers : List ℕ) (i p g x : ℕ) → i < taskCount offers
+    → offered offers (taskCount offers - i) i p g x
+    ≡ offered offers (taskCount offers - (i + 1)) (i + 1) p g (x * fieldBase)
+    ++ offeredWith offers (taskCount offers - (i + 1)) (i + 1) p (g + valueIn offers i) (x * fieldBase) (clearIn p (spanStartIn offers i) (spanEndIn offers i))
+unfolding offered offeredWith
+offered-next offers i p g x lt = let s : taskCount offers - i ≡ suc (taskCount offers - (i + 1)) = omega arith in rw s
 
-  -- "0, or, if the label releases it, C bits below bit D, clear of the pattern": 0 and the clear masks of the group
-  masks-idle : (t : Task) → masksOf t false taken ≡ clearIn taken 0 1
-  unfolding masksOf
-  masks-idle t = sym clear-zero
+pub with-none : (offers : List ℕ) (k i p g x : ℕ) (m : List ℕ) (at end : ℕ) → at ≡ end → offeredWith offers k i p g x (part m at (end - at)) ≡ []
+unfolding offeredWith
+with-none offers k i p g x m at end e = let z : end - at ≡ 0 = omega arith in rw z
 
-  ones-low : (D m : ℕ) → D ≤ maxWindow → m < 2 ^ D → ones D m ≡ ones maxWindow m
-  ones-low D m h lt = ones-below D D m lt (omega arith) ∙ sym (ones-below D maxWindow m lt h)
+-- a mask, and then the masks behind it
+pub with-more : (offers : List ℕ) (k i p g x : ℕ) (m : List ℕ) (at end : ℕ) → at < end → end ≤ length m
+    → offeredWith offers k i p g x (part m at (end - at))
+    ≡ offered offers k i (bitOr p (getD m at 0)) g (x + getD m at 0) ++ offeredWith offers k i p g x (part m (at + 1) (end - (at + 1)))
+unfolding offeredWith
+with-more offers k i p g x m at end lt le =
+    let s : end - at ≡ suc (end - (at + 1)) = omega arith in
+    rw (s, drop-cons m at 0 (omega arith), ← add-one at)
 
-  masks-released : (t : Task) → InRange t
-      → masksOf t true taken ≡ clearIn taken 0 1 ++ clearIn taken (groupStart (t .work)) (groupStart (t .work) + length (groupBelow (t .window) (t .work)))
-  unfolding masksOf clearIn clear
-  masks-released t h =
-      let size : groupStart (t .work) + length (groupBelow (t .window) (t .work)) - groupStart (t .work) ≡ length (groupBelow (t .window) (t .work)) = omega arith in
-      rw clear-zero
-      (ap (λ l. 0 ∷ l)
-      (sym (keep-keep clear (λ m. eqb (ones (t .window) m) (t .work)) (upFrom 1 (2 ^ (t .window) - 1)))
-      ∙ ap (keep clear) (keep-same (λ m. eqb (ones (t .window) m) (t .work)) (λ m. eqb (ones maxWindow m) (t .work)) (upFrom 1 (2 ^ (t .window) - 1))
-      (λ m k. ap (λ n. eqb n (t .work)) (ones-low (t .window) m (h .window) (omega (arith, suc-ones (t .window), mem-of-upFrom 1 (2 ^ (t .window) - 1) k))))
-      ∙ group-below-from-one (t .work) (t .window) (h .work) (h .window)
-      ∙ sym (ap (λ n. part maskTable (groupStart (t .work)) n) size ∙ group-below (t .work) (omega (arith, h .within, h .window)) (t .window)))))
+-- ---- what is carried
 
--- ---- the outcomes of the next tasks
+more-room : (i x : ℕ) → x + 1 ≤ fieldBase ^ i → x * fieldBase + fieldBase ≤ fieldBase ^ (i + 1)
+more-room i x h = rw (add-one i, pow-suc fieldBase i) (omega arith)
 
-outcomes-nil : (l : ℕ) (c : Chosen) → outcomesFrom [] l c ≡ outcomeIn c ∷ []
-unfolding outcomesFrom choices
-outcomes-nil l c = ap (λ g. record { pattern = c .pattern / 2; gain = g; masks = c .masks } ∷ []) (add-zero (c .gain))
+power-le : (i : ℕ) → i ≤ maxTasks → fieldBase ^ i ≤ fieldBase ^ maxTasks
+power-le i h = pow-le-pow-right (lit< tt) {i = i} {j = maxTasks} h
 
-outcomes-cons : (t : Task) (ts : Tasks) (l : ℕ) (c : Chosen)
-    → outcomesFrom (t ∷ ts) l c ≡ outcomesWith t ts (l / 2) c (masksOf t (eqb (l % 2) 1) (c .pattern))
-unfolding outcomesFrom outcomesWith choices
-outcomes-cons t ts l c =
-    map-flatMap (outcomeFrom (t ∷ ts) c) (λ m. map (λ ms. m ∷ ms) (choices ts (l / 2) (bitOr (c .pattern) m))) masks
-    ∙ λ i. flatMap (λ m. step m i) masks
+module _ {offers : List ℕ} {i p g x : ℕ} (o : OffersFit offers) (lt : i < taskCount offers) where
+  pub carries-idle : Carries offers i p g x 1 → Carries offers (i + 1) p g (x * fieldBase) 1
+  carries-idle c = record { task = omega arith; pattern = c .pattern; gain = omega (arith, c .gain); masks = omega (arith, more-room i x (c .masks)) }
+
+  pub carries-masks : Carries offers i p g x 1 → Carries offers (i + 1) p (g + valueIn offers i) (x * fieldBase) fieldBase
+  carries-masks c = record { task = omega arith; pattern = c .pattern; gain = omega (arith, c .gain, o .value i lt); masks = omega (arith, more-room i x (c .masks)) }
+
+  -- the masks moved up are a number of 64 bits
+  pub moved-fits : Carries offers i p g x 1 → x * fieldBase < fieldBase ^ maxTasks
+  moved-fits c =
+      omega (arith, more-room i x (c .masks), power-le (i + 1) (omega (arith, o .few)))
+
+-- a mask joins
+pub carries-mask : {offers : List ℕ} {i p g x : ℕ} (m : ℕ) → m < maskCount → Carries offers i p g x fieldBase → Carries offers i (bitOr p m) g (x + m) 1
+carries-mask {p = p} m low c = record { task = c .task; pattern = or-lt maxWindow p m (c .pattern) low; gain = c .gain; masks = omega (arith, c .masks) }
+
+pub joined-fits : {offers : List ℕ} {i p g x : ℕ} (m : ℕ) → m < maskCount → OffersFit offers → Carries offers i p g x fieldBase → x + m < fieldBase ^ maxTasks
+joined-fits {i = i} m low o c =
+    omega (arith, c .masks, power-le i (omega (arith, o .few, c .task)))
+
+-- the list of the clear masks
+pub listed-clear : (taken at end i : ℕ) (m m′ : List ℕ) (r : ℕ) → end - at ≤ maskCount → i < maxTasks → noteRoom ≤ length m → ListsClear taken at end (listPlace i) m m′ r → Listed m′ (i + 1) (listPlace i) r
+listed-clear taken at end i m m′ r few lt room c = record {
+  from = omega arith;
+  order = c .starts;
+  within = omega (arith, c .ends);
+  low = λ k h h′. subst (λ (n : ℕ). n < maskCount) (entry k h h′) (clear-low taken at end (k - listPlace i));
+}
   where
-    masks : List ℕ
-    masks = masksOf t (eqb (l % 2) 1) (c .pattern)
+    entry : (k : ℕ) → listPlace i ≤ k → k < r → getD (clearIn taken at end) (k - listPlace i) 0 ≡ getD m′ k 0
+    entry k h h′ =
+        let e : listPlace i + (k - listPlace i) ≡ k = omega arith in
+        ap (λ (l : List ℕ). getD l (k - listPlace i) 0) (sym (c .masks)) ∙ getD-take (r - listPlace i) (drop (listPlace i) m′) (k - listPlace i) 0 (omega arith)
+        ∙ getD-drop (listPlace i) m′ (k - listPlace i) 0 ∙ ap (λ (j : ℕ). getD m′ j 0) e
 
-    one : (m : ℕ) (ms : List ℕ) → outcomeFrom (t ∷ ts) c (m ∷ ms) ≡ outcomeFrom ts (chosenWith t c m) ms
-    one m ms = rw add-assoc
+-- the list that is left, with what was noted in between
+pub listed-later : {m m′ : List ℕ} {i at end : ℕ} → at < end → Keeps (listPlace i) m m′ → Listed m i at end → Listed m′ i (at + 1) end
+listed-later lt k l = record {
+  from = omega (arith, l .from);
+  order = omega arith;
+  within = l .within;
+  low = λ j h h′. subst (λ (n : ℕ). n < maskCount) (sym (k .lists j (omega (arith, l .from)) (omega (arith, l .within)))) (l .low j (omega arith) h′);
+}
 
-    step : (m : ℕ) → map (outcomeFrom (t ∷ ts) c) (map (λ ms. m ∷ ms) (choices ts (l / 2) (bitOr (c .pattern) m)))
-        ≡ map (outcomeFrom ts (chosenWith t c m)) (choices ts (l / 2) (bitOr (c .pattern) m))
-    step m =
-        map-map (outcomeFrom (t ∷ ts) c) (λ ms. m ∷ ms) (choices ts (l / 2) (bitOr (c .pattern) m))
-        ∙ λ i. map (λ ms. one m ms i) (choices ts (l / 2) (bitOr (c .pattern) m))
-
--- ---- by the release
-
-module _ (r : Release) (c : Chosen) (h : Released r) where
-  abbrev task : Task
-  task = getD (tasksReleased r) (c .task) noTask
-
-  abbrev groupEnd : ℕ
-  groupEnd = groupStart (task .work) + length (groupBelow (task .window) (task .work))
-
-  -- no task is left
-  pub next-last : c .task ≡ r .count → nextOutcomes r c ≡ outcomeIn c ∷ []
-  next-last e =
-      let all : length (tasksReleased r) ≤ c .task = omega (arith, h .size) in
-      rw (drop-of-length-le (tasksReleased r) all) (outcomes-nil (r .label / 2 ^ c .task) c)
-
-  module _ (lt : c .task < r .count) where
-    pub task-range : InRange task
-    task-range = h .tasks .each (c .task) (omega (arith, h .size))
-
-    half : r .label / 2 ^ c .task / 2 ≡ r .label / 2 ^ (c .task + 1)
-    half = shr-shr (r .label) (c .task) 1
-
-    next-masks : (b : Bool) → eqb (r .label / 2 ^ c .task % 2) 1 ≡ b
-        → nextOutcomes r c ≡ outcomesWith task (drop (c .task + 1) (tasksReleased r)) (r .label / 2 ^ (c .task + 1)) c (masksOf task b (c .pattern))
-    next-masks b e =
-        ap (λ ts. outcomesFrom ts (r .label / 2 ^ c .task) c)
-        (drop-cons (tasksReleased r) (c .task) noTask (omega (arith, h .size)) ∙ ap (λ k. task ∷ drop k (tasksReleased r)) (sym (add-one (c .task))))
-        ∙ outcomes-cons task (drop (c .task + 1) (tasksReleased r)) (r .label / 2 ^ c .task) c
-        ∙ ap₂ (λ l b. outcomesWith task (drop (c .task + 1) (tasksReleased r)) l c (masksOf task b (c .pattern))) half e
-
-    pub next-idle : eqb (r .label / 2 ^ c .task % 2) 1 ≡ false → nextOutcomes r c ≡ maskOutcomes r c 0 1
-    next-idle e =
-        next-masks false e
-        ∙ ap (outcomesWith task (drop (c .task + 1) (tasksReleased r)) (r .label / 2 ^ (c .task + 1)) c) (masks-idle (c .pattern) task)
-
-    pub next-released : eqb (r .label / 2 ^ c .task % 2) 1 ≡ true
-        → nextOutcomes r c ≡ maskOutcomes r c 0 1 ++ maskOutcomes r c (groupStart (task .work)) groupEnd
-    unfolding outcomesWith
-    next-released e =
-        next-masks true e
-        ∙ ap (outcomesWith task (drop (c .task + 1) (tasksReleased r)) (r .label / 2 ^ (c .task + 1)) c) (masks-released (c .pattern) task task-range)
-        ∙ flatMap-append (λ m. outcomesFrom (drop (c .task + 1) (tasksReleased r)) (r .label / 2 ^ (c .task + 1)) (chosenWith task c m))
-        (clearIn (c .pattern) 0 1) (clearIn (c .pattern) (groupStart (task .work)) groupEnd)
-
-  -- the masks from at up to end
-  pub mask-none : (at end : ℕ) → at ≡ end → maskOutcomes r c at end ≡ []
-  unfolding outcomesWith
-  mask-none at end e = rw (clear-none (c .pattern) at end e)
-
-  module _ (at end : ℕ) (lt : at < end) (le : end ≤ maskCount) where
-    abbrev mask : ℕ
-    mask = getD maskTable at 0
-
-    pub mask-skip : (bitAnd mask (c .pattern) ≡ 0 → ⊥) → maskOutcomes r c at end ≡ maskOutcomes r c (at + 1) end
-    unfolding clear
-    mask-skip ne = rw (clear-more (c .pattern) at end lt le, ne-eqb (bitAnd mask (c .pattern)) 0 ne)
-
-    pub mask-take : bitAnd mask (c .pattern) ≡ 0
-        → maskOutcomes r c at end ≡ nextOutcomes r (chosenWith task c mask) ++ maskOutcomes r c (at + 1) end
-    unfolding outcomesWith clear
-    mask-take e = rw (clear-more (c .pattern) at end lt le, eq-eqb (bitAnd mask (c .pattern)) 0 e)
-
-  -- the masks that meet the pattern are passed over
-  pub mask-next : (at end k : ℕ) → end ≤ maskCount → NextClear (c .pattern) at end k → maskOutcomes r c at end ≡ maskOutcomes r c k end
-  mask-next at end k le next = go (k - at) at (omega (arith, next .from)) (omega (arith, next .from)) (next .met)
-    where
-      go : (d i : ℕ) → i ≤ k → i + d ≡ k → ((j : ℕ) → i ≤ j → j < k → bitAnd (getD maskTable j 0) (c .pattern) ≡ 0 → ⊥) →
-          maskOutcomes r c i end ≡ maskOutcomes r c k end
-      go zero i most e met = ap (λ (j : ℕ). maskOutcomes r c j end) (let same : i ≡ k = omega arith in same)
-      go (suc d) i most e met =
-          mask-skip i end (omega (arith, next .within)) le (met i (omega arith) (omega arith))
-          ∙ go d (i + 1) (omega arith) (omega arith) (λ j from below. met j (omega arith) below)
-
--- ---- from the start
-
-pub take-zeros : (k j : ℕ) → k ≤ j → take k (replicate j 0) ≡ replicate {A = ℕ} k 0
-take-zeros zero j h = refl
-take-zeros (suc k) zero h = absurd (omega arith)
-take-zeros (suc k) (suc j) h = ap (λ l. 0 ∷ l) (take-zeros k j (omega arith))
-
--- masks for the tasks from a place on, where no mask stands there yet
-placed-padded : (xs ms : List ℕ) (k j : ℕ) → length ms ≤ k → k ≤ j
-    → placed (xs ++ replicate k 0) (length xs) ms ≡ xs ++ take k (ms ++ replicate j 0)
-placed-padded xs [] k j h h′ = ap (λ l. xs ++ l) (sym (take-zeros k j h′))
-placed-padded xs (m ∷ ms) zero j h h′ = absurd (omega arith)
-placed-padded xs (m ∷ ms) (suc k) j h h′ =
-    let next : length xs + 1 ≡ length (xs ++ (m ∷ [])) = sym (length-append xs (m ∷ [])) in
-    rw (set-append-seam xs 0 (replicate k 0) m, next, ← append-snoc xs m (replicate k 0))
-    (placed-padded (xs ++ (m ∷ [])) ms k j (omega arith) (omega arith) ∙ append-snoc xs m (take k (ms ++ replicate j 0)))
-
--- no mask yet
-abbrev pub chosenNone : ℕ → Chosen
-chosenNone taken = record { task = 0; pattern = taken; gain = 0; masks = replicate maxTasks 0 }
-
-pub outcomes-start : (ts : Tasks) (l taken : ℕ) → length ts ≤ maxTasks → outcomesFrom ts (l / 2 ^ 0) (chosenNone taken) ≡ outcomes ts l taken
-unfolding outcomesFrom outcomes
-outcomes-start ts l taken few =
-    ap (λ k. map (outcomeFrom ts (chosenNone taken)) (choices ts k taken)) (div-one l)
-    ∙ map-same (outcomeFrom ts (chosenNone taken)) (outcomeOf ts taken) (choices ts l taken)
-    (λ ms m.
-    ap₂ (λ g l. record { pattern = joined taken ms / 2; gain = g; masks = l }) (zero-add (worth ts ms))
-    (placed-padded [] ms maxTasks maxTasks (omega (arith, mem-choices ts l taken ms .0 m .count)) (omega arith)))
+pub part-kept : {m m′ : List ℕ} {i at end : ℕ} → Keeps (listPlace i) m m′ → Listed m i at end → part m′ at (end - at) ≡ part m at (end - at)
+part-kept {m} {m′} {at = at} {end = end} k l =
+    part-ext m′ m at (end - at) (k .long) (λ j h. k .lists (at + j) (omega (arith, l .from)) (omega (arith, l .within, l .order)))

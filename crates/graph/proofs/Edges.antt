@@ -10,12 +10,13 @@ use native.Mathlib.Decide.{decLt}
 use native.Mathlib.Omega.{arith}
 use lib.ListN.{length}
 use borrow.Author.Tests.{eq-eqb, ne-eqb}
+use Rattle.model.specs.Graph as model
 use Rattle.model.specs.Certificate.{Step}
 use Rattle.model.specs.Check.{padded, isStep, findStep}
-use Rattle.model.specs.Graph as model
 use Rattle.model.specs.Graph.{choices, edgeOf, edgesTo, edgesAt, edges}
 use Rattle.model.specs.Limits.{maxStates}
 use Rattle.model.specs.Lists.{sameNumbers, flatMap, upFrom}
+use Rattle.model.specs.Masks.{maskCount}
 use Rattle.model.specs.Plan.{Plan, nextIn}
 use Rattle.model.specs.Slot.{Done, slot, ready}
 use Rattle.model.proofs.Lists.{flatMap-append, upFrom-append, mem-of-upFrom}
@@ -25,10 +26,10 @@ use Rattle.plan.specs.View.{arcsIn}
 use Rattle.policy.specs.View.{cellCount, jobsOf, Cells, tasksIn, Ruled}
 use Rattle.policy.proofs.Plans.{states-fit}
 use Rattle.policy.specs.declared.Rules.{Rules}
+use Rattle.node.specs.declared.Node.{Node}
 use Rattle.graph.specs.View.{nodeOf, Planned, planBy, TableFits}
 use Rattle.graph.specs.Choice.{Led, findChoice, ledBy, choiceOf}
 use Rattle.graph.specs.Edge.{End, endIn, noEdge, Stepped}
-use Rattle.node.specs.declared.Node.{Node}
 use Rattle.graph.specs.declared.Edge.{Edge}
 
 module _ (s : Step) where
@@ -175,11 +176,11 @@ module _ (r : Rules) (size : length (tasksIn r) ≡ r .count) (next : List ℕ) 
       ∙ sym (λ i. endBy (slotted i) t (chosen i))
 
 -- where there is no edge, none is right
-pub stepped-none : (next : List ℕ) (r : Rules) (u : Node) (l : ℕ) (ms : List ℕ) (e : Edge) → e ≡ noEdge u → Cells (tasksIn r) cellCount (u .cells) → u .state < maxStates
+pub stepped-none : (next : List ℕ) (r : Rules) (u : Node) (l : ℕ) (ms : List ℕ) (e : Edge) → e ≡ noEdge u → Cells (tasksIn r) cellCount (u .cells) → u .state < maxStates → u .taken < maskCount
     → endIn (findStep (record { label = l; masks = ms }) (edges (planBy r next maxStates) (nodeOf (tasksIn r) u))) ≡ none → Stepped next r u l ms e
-stepped-none next r u l ms e is cells state missing =
+stepped-none next r u l ms e is cells state taken missing =
     subst (Stepped next r u l ms) (sym is)
-    (record { edge = sym missing; absent = λ f. refl; cells = cells; state = state; kept = omega arith; ideal = omega arith })
+    (record { edge = sym missing; absent = λ f. refl; cells = cells; state = state; taken = taken; kept = omega arith; ideal = omega arith })
 
 -- ---- the plans of a table
 

@@ -17,12 +17,12 @@ use Rattle.graph.proofs.Outcomes.{firsts, firsts-mem, patternOf, patter
 abbrev Low : ℕ → List ℕ → Type 0
 Low b l = (p : ℕ) → List·Memᴰ p l → p < b
 
-module _ (ts : Tasks) (range : TasksInRange ts) (l taken : ℕ) (low : taken < maskCount)
-    (after : List ℕ) (count : ℕ) (noted : notesIn after count ≡ notedOf ts l taken nothingNoted) where
+module _ (ts : Tasks) (range : TasksInRange ts) (l taken wanted : ℕ) (low : taken < maskCount)
+    (after : List ℕ) (count : ℕ) (noted : notesIn after count ≡ notedOf ts l taken wanted nothingNoted) where
   -- the patterns in the notes
   pub label-order : orderIn after count ≡ firsts (map (patternOf ts range l taken low) (choices ts l taken))
   unfolding notesIn
-  label-order = ap (λ (n : Notes). n .order) noted ∙ noted-order ts range l taken low
+  label-order = ap (λ (n : Notes). n .order) noted ∙ noted-order ts range l taken low wanted
 
   order-low : Low patternCount (orderIn after count)
   order-low =

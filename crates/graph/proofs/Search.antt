@@ -6,11 +6,11 @@ use mathlib.Core.Bool.{Bool, true, false, cond, _||_, _&&_, false≢true}
 use mathlib.Core.List.{List, [], _∷_, _++_, map, List·Memᴰ, List·Memᴰ·head, List·Memᴰ·tail, List·Memᴰ·not-nil, List·Memᴰ·cases-cons, List·Memᴰ·eq-of-singleton, Memᴰ·map, Memᴰ·of-map}
 use mathlib.Core.Option.{Option, none, some}
 use Prim.Native.Nat.{ℕ, zero, suc, _+_, _-_, _*_, _/_, _%_, _^_, _<_, _≤_}
-use native.Mathlib.Nat.{add-zero, add-assoc, pow-suc, div-lt-iff-lt-mul, div-one}
+use native.Mathlib.Nat.{add-zero, add-assoc, div-lt-iff-lt-mul, div-one}
 use native.Mathlib.Decide.{decLt}
 use native.Mathlib.Omega.{arith}
-use lib.Bits.{bitAnd, bitOr}
 use lib.Count as count
+use lib.Bits.{bitAnd, bitOr}
 use lib.Dec.{T, eqb, ltb}
 use lib.ListN.{length, getD, take, drop, replicate, length-append, length-replicate, drop-of-length-le}
 use lib.Pow.{shr-shr, pow-pos, pow-mono}
@@ -25,24 +25,16 @@ use Rattle.model.specs.Plan.{Task}
 use Rattle.model.specs.Slot.{noTask}
 use Rattle.model.proofs.Lists.{mem-of-flatMap, mem-flatMap}
 use Rattle.model.proofs.Plan.{both}
-use Rattle.policy.specs.View.{Tasks}
+use Rattle.model.proofs.Tests.{same-numbers}
 use Rattle.theory.proofs.Bits.{Apart, and-apart, zero-no-bit}
 use Rattle.theory.proofs.Edges.{MaskOf, Picked, mem-masksOf, mem-choices}
-use Rattle.model.proofs.Tests.{same-numbers}
+use Rattle.policy.specs.View.{Tasks}
 use Rattle.graph.specs.Outcomes.{chosenWith, tasksReleased, Released}
 use Rattle.graph.specs.Choice.{Led, findChoice, ledBy, choiceOf, fitsTask, allZero, choiceFrom, nextChoice}
-use Rattle.graph.proofs.Choices.{take-zeros}
 use Rattle.graph.specs.declared.Release.{Release}
 use Rattle.graph.specs.declared.Chosen.{Chosen}
 
 -- ---- one mask
-
--- the ones of a number of n bits
-pub ones-counted : (n m : ℕ) → m < 2 ^ n → count.ones m ≡ ones n m
-unfolding count.ones count.onesIn
-ones-counted zero m h = let z : m ≡ 0 = omega arith in ap count.ones z
-ones-counted (suc n) m h =
-    count.ones-step m ∙ ap (λ k. m % 2 + k) (ones-counted n (m / 2) (omega (arith, pow-suc 2 n)))
 
 module _ (m w : ℕ) where
   pub within : m / 2 ^ w ≡ 0 → m < 2 ^ w
@@ -142,7 +134,13 @@ of-zeros (m ∷ l) h = by (of-zeros l) (eqb m 0) refl h
     by later true e z = ap₂ (λ x k. x ∷ k) (eqb-true m 0 e) (later z)
     by later false e z = absurd (false≢true z)
 
-padded-plain : (ms : List ℕ) (k j : ℕ) → length ms ≤ k → k ≤ j → take k (ms ++ replicate j 0) ≡ ms ++ replicate (k - length ms) 0
+take-zeros : (k j : ℕ) → k ≤ j → take k (replicate j 0) ≡ replicate {A = ℕ} k 0
+take-zeros zero j h = refl
+take-zeros (suc k) zero h = absurd (omega arith)
+take-zeros (suc k) (suc j) h = ap (λ l. 0 ∷ l) (take-zeros k j (omega arith))
+
+-- masks with a 0 for each task that is lacking
+pub padded-plain : (ms : List ℕ) (k j : ℕ) → length ms ≤ k → k ≤ j → take k (ms ++ replicate j 0) ≡ ms ++ replicate (k - length ms) 0
 padded-plain [] k j h h′ = let e : k ≡ k - 0 = omega arith in take-zeros k j h′ ∙ ap (λ n. replicate n 0) e
 padded-plain (m ∷ ms) zero j h h′ = absurd (omega arith)
 padded-plain (m ∷ ms) (suc k) j h h′ =
@@ -301,11 +299,11 @@ module _ (r : Release) (c : Chosen) (given : List ℕ) (h : Released r) where
 
 -- no mask yet
 pub choice-start : (r : Release) (taken : ℕ) (given : List ℕ) → Released r → length given ≡ maxTasks
-    → nextChoice r (record { task = 0; pattern = taken; gain = 0; masks = given }) given ≡ choiceOf (tasksReleased r) (r .label) taken given
+    → nextChoice r (record { task = 0; pattern = taken; gain = 0 }) given ≡ choiceOf (tasksReleased r) (r .label) taken given
 unfolding nextChoice
 choice-start r taken given h size =
     ap (λ l. choiceFrom (tasksReleased r) l c given) (div-one (r .label))
     ∙ sym (choice-tested (tasksReleased r) (r .label) c given refl size (h .tasks .count))
   where
     c : Chosen
-    c = record { task = 0; pattern = taken; gain = 0; masks = given }
+    c = record { task = 0; pattern = taken; gain = 0 }

@@ -11,11 +11,11 @@ use Rattle.model.specs.Graph.{choices, joined, worth}
 use Rattle.model.specs.Lists.{sameNumbers, ones}
 use Rattle.model.specs.Plan.{Task}
 use Rattle.policy.specs.View.{Tasks}
+use Rattle.graph.specs.declared.Lead.the-variants as found
 use Rattle.graph.specs.Outcomes.{chosenWith, tasksReleased}
 use Rattle.graph.specs.declared.Release.{Release}
 use Rattle.graph.specs.declared.Chosen.{Chosen}
 use Rattle.graph.specs.declared.Lead.{Lead}
-use Rattle.graph.specs.declared.Lead.the-variants as found
 
 -- where a choice leads: the pattern, and the clairvoyant's gain
 pub record Led : Type 0 where
@@ -39,10 +39,14 @@ abbrev pub ledOf : Lead → Option Led
 ledOf found.None = none
 ledOf (found.Some p g) = some (record { pattern = p; gain = g })
 
--- the gain, 0 where there is no choice
+-- the gain and the pattern, 0 where there is no choice
 abbrev pub leadGain : Lead → ℕ
 leadGain found.None = 0
 leadGain (found.Some p g) = g
+
+abbrev pub leadPattern : Lead → ℕ
+leadPattern found.None = 0
+leadPattern (found.Some p g) = p
 
 -- ---- by a test of each mask
 

@@ -7,6 +7,7 @@ use Prim.Native.Nat.{ℕ, _*_, _<_, _≤_}
 use Rattle.model.specs.Check.{findStep}
 use Rattle.model.specs.Graph as model
 use Rattle.model.specs.Limits.{maxTasks, maxValue, maxStates}
+use Rattle.model.specs.Masks.{maskCount}
 use Rattle.policy.specs.View.{Tasks, cellCount, Cells, tasksIn}
 use Rattle.policy.specs.declared.Rules.{Rules}
 use Rattle.graph.specs.View.{nodeOf, planBy}
@@ -42,5 +43,6 @@ pub record Stepped (next : List ℕ) (r : Rules) (u : Node) (l : ℕ) (ms : List
   pub absent : e .found ≡ false → e ≡ noEdge u
   pub cells : Cells (tasksIn r) cellCount (e .to .cells)
   pub state : e .to .state < maxStates
+  pub taken : e .to .taken < maskCount
   pub kept : e .kept ≤ maxValue
   pub ideal : e .ideal ≤ maxTasks * maxValue

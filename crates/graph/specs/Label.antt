@@ -20,9 +20,9 @@ pub record Readable (notes : List ℕ) (count : ℕ) : Type 0 where
   pub room : noteRoom ≤ length notes
   pub low : (k : ℕ) → k < count → patternIn notes k < patternCount
 
--- the slot is the rule's, the notes are of the label's choices, and every byte behind them is as it was
-pub record Reaches (r : Rules) (u : Node) (l : ℕ) (before after : List ℕ) (d : Noted) : Type 0 where
+-- the slot is the rule's, the notes are of the label's choices with the masks of the wanted pattern, and every number behind them is as it was
+pub record Reaches (r : Rules) (u : Node) (l wanted : ℕ) (before after : List ℕ) (d : Noted) : Type 0 where
   pub slot : Slotted r (u .cells) l (d .done)
-  pub notes : notesIn after (d .count) ≡ notedOf (tasksIn r) l (u .taken) nothingNoted
+  pub notes : notesIn after (d .count) ≡ notedOf (tasksIn r) l (u .taken) wanted nothingNoted
   pub readable : Readable after (d .count)
   pub only : NotesFree before after

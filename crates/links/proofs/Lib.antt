@@ -1,3 +1,4 @@
 pub mod Written
 pub mod Climb
 pub mod Cleared
+pub mod WorkMemory

@@ -10,15 +10,16 @@ use native.Mathlib.Omega.{arith}
 use borrow.Author.Tests.{eq-eqb, ne-eqb}
 use lib.Dec.{eqb}
 use lib.ListN.{length, getD, set, length-append}
-use lib.Seq.{take-at, append-snoc}
+use lib.Seq.{append-snoc}
 use lib.Signed.{mag}
 use Rattle.model.specs.Bytes.{number, bytes, signed, complement, part, overwrite, Only}
 use Rattle.model.specs.Limits.{maxNodes, maxSteps}
 use Rattle.words.proofs.Complement.{complement-lt, signed-complement}
+use Rattle.words.proofs.Fields.{field-read}
 use Rattle.words.proofs.Free.{only-part, overwrite-only, overwrite-within}
 use Rattle.words.proofs.Memory.{overwrite-one, overwrite-inside, overwrite-outside, overwrite-frame, overwrite-join, overwrite-more, part-skip, getD-skip}
-use Rattle.words.proofs.Numbers.{bytes-length, number-bytes}
-use Rattle.links.specs.Links.{linkBytes, stepBytes, linksAt, stepsAt, linksEnd, linkPlace, linkIn, stepPlace, takenIn, marked, Puts, PutsStep, linksSize, stepsSize}
+use Rattle.words.proofs.Numbers.{bytes-length}
+use Rattle.links.specs.Links.{linkBytes, takenBytes, linksAt, stepsAt, linksEnd, linkPlace, linkIn, stepPlace, takenIn, marked, Puts, PutsStep, linksSize, stepsSize}
 use Rattle.links.specs.declared.Link.{Link}
 use Rattle.links.specs.declared.Taken.{Taken}
 
@@ -56,13 +57,13 @@ module _ (l : Link) (signs : mag (l .distance) < 2 ^ 63) (low : l .parent < 256 
 
   distance-back : signed (number (part (bytesOf l) 0 8)) ≡ l .distance
   distance-back =
-      ap (λ bs. signed (number (part bs 0 8))) apart ∙ ap (λ bs. signed (number bs)) (take-at first rest 8 (bytes-length 8 _))
-      ∙ ap signed (number-bytes 8 (complement (l .distance)) (complement-lt (l .distance) signs)) ∙ signed-complement (l .distance) signs
+      ap (λ bs. signed (number (part bs 0 8))) apart
+      ∙ ap signed (field-read 8 (complement (l .distance)) rest (complement-lt (l .distance) signs)) ∙ signed-complement (l .distance) signs
 
   parent-back : number (part (bytesOf l) (8 + 0) 2) ≡ l .parent
   parent-back =
       ap (λ bs. number (part bs (8 + 0) 2)) apart ∙ ap number (part-skip first rest 8 0 2 (bytes-length 8 _))
-      ∙ ap number (take-at (bytes 2 (l .parent)) (l .label ∷ l .mark ∷ []) 2 (bytes-length 2 _)) ∙ number-bytes 2 (l .parent) low
+      ∙ field-read 2 (l .parent) (l .label ∷ l .mark ∷ []) low
 
   tail-back : (i : ℕ) → getD (bytesOf l) (8 + (2 + i)) 0 ≡ getD (l .label ∷ l .mark ∷ []) i 0
   tail-back i =
@@ -165,7 +166,7 @@ module _ (m : List ℕ) (v b : ℕ) (room : linksEnd ≤ length m) (below : v < 
 abbrev pub stepBytesOf : Taken → List ℕ
 stepBytesOf s = bytes 2 (s .node) ++ (s .label ∷ [])
 
-stepBytesOf-length : (s : Taken) → length (stepBytesOf s) ≡ stepBytes
+stepBytesOf-length : (s : Taken) → length (stepBytesOf s) ≡ takenBytes
 stepBytesOf-length s = length-append (bytes 2 (s .node)) (s .label ∷ []) ∙ ap (λ (n : ℕ). n + 1) (bytes-length 2 (s .node))
 
 module _ (s : Taken) (low : s .node < 256 ^ 2) (m : List ℕ) (i : ℕ) (room : linksEnd ≤ length m) (below : i < maxSteps) where
@@ -182,13 +183,13 @@ module _ (s : Taken) (low : s .node < 256 ^ 2) (m : List ℕ) (i : ℕ) (room : 
         node =
             (ap (λ (k : ℕ). number (part stepped k 2)) (sym (add-zero (stepPlace i)))
             ∙ ap number (overwrite-within m (stepPlace i) (stepBytesOf s) step-fits 0 2 (omega arith))
-            ∙ ap number (take-at (bytes 2 (s .node)) (s .label ∷ []) 2 (bytes-length 2 _)) ∙ number-bytes 2 (s .node) low) j;
+            ∙ field-read 2 (s .node) (s .label ∷ []) low) j;
         label =
             (overwrite-inside m (stepPlace i) (stepBytesOf s) step-fits 2 (omega arith)
             ∙ getD-skip (bytes 2 (s .node)) (s .label ∷ []) 2 0 (bytes-length 2 _)) j;
       }
 
-  other-step : (x : ℕ) → (stepPlace x + stepBytes ≤ stepPlace i) ⊎ (stepPlace i + stepBytes ≤ stepPlace x) → takenIn stepped x ≡ takenIn m x
+  other-step : (x : ℕ) → (stepPlace x + takenBytes ≤ stepPlace i) ⊎ (stepPlace i + takenBytes ≤ stepPlace x) → takenIn stepped x ≡ takenIn m x
   other-step x side =
       let long = stepBytesOf-length s in
       λ j. record {

@@ -21,10 +21,11 @@ use Rattle.links.specs.declared.Way.the-variants.{Apart, Above}
 abbrev pub linkBytes : ℕ
 linkBytes = 12
 
-abbrev pub stepBytes : ℕ
-stepBytes = 3
+abbrev pub takenBytes : ℕ
+takenBytes = 3
 
--- the links stand behind the store, and then the steps
+-- The layout of the lent work memory of 65,536 bytes: rows (39 each) to 39,936, the index by hash to 41,984 and by row to 44,032, the links (12
+-- each) to 56,320, the steps (3 each) to 59,392 (`links/proofs/WorkMemory`).
 abbrev pub linksAt : ℕ
 linksAt = storeBytes
 
@@ -35,7 +36,7 @@ abbrev pub stepsAt : ℕ
 stepsAt = linksAt + linksSize
 
 abbrev pub stepsSize : ℕ
-stepsSize = stepBytes * maxSteps
+stepsSize = takenBytes * maxSteps
 
 abbrev pub linksEnd : ℕ
 linksEnd = stepsAt + stepsSize
@@ -54,7 +55,7 @@ linkIn memory v = record {
 
 -- the step i: the node in two bytes, and the label
 abbrev pub stepPlace : ℕ → ℕ
-stepPlace i = stepsAt + stepBytes * i
+stepPlace i = stepsAt + takenBytes * i
 
 abbrev pub takenIn : List ℕ → ℕ → Taken
 takenIn memory i = record { node = number (part memory (stepPlace i) 2); label = getD memory (stepPlace i + 2) 0 }

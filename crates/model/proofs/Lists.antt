@@ -5,11 +5,11 @@ use mathlib.Core.Logic.{⊎-elim}
 use mathlib.Core.Bool.{Bool, true, false, _&&_, false≢true, and-comm}
 use mathlib.Core.List.{List, [], _∷_, _++_, map, append-assoc, append-nil, List·Memᴰ, List·Memᴰ·head, List·Memᴰ·tail, List·Memᴰ·not-nil, List·Memᴰ·cases-cons, List·Memᴰ·append-cases, Memᴰ·cast, Memᴰ·append-left, Memᴰ·append-right}
 use mathlib.Core.Option.{Option, some}
-use Prim.Native.Nat.{ℕ, zero, suc, _+_, _-_, _<_, _≤_}
-use native.Mathlib.Nat.{zero-add, add-zero, suc-add, add-suc, add-sub-of-le, le-of-suc-le-suc, not-suc-le-zero}
+use Prim.Native.Nat.{ℕ, zero, suc, _+_, _-_, _*_, _<_, _≤_}
+use native.Mathlib.Nat.{zero-add, add-zero, suc-add, add-suc, mul-zero, mul-suc, add-sub-of-le, le-of-suc-le-suc, not-suc-le-zero}
 use native.Mathlib.Omega.{arith}
 use lib.Dec.{ltb}
-use lib.ListN.{length, getD, take, replicate}
+use lib.ListN.{length, getD, take, replicate, length-append}
 use borrow.Author.Tests.{lt-ltb, le-ltb, ltb-false}
 use Rattle.model.specs.Lists.{consIf, keep, flatMap, upFrom, listOf}
 
@@ -98,6 +98,13 @@ module _ {ℓ} {A : Type ℓ} where
   getD-default (suc n) zero d = refl
   getD-default (suc n) (suc k) d = getD-default n k d
 
+module _ {ℓ κ} {A : Type ℓ} {B : A → Type κ} where
+  -- what holds of every element, and of the default, holds at every place
+  pub at-each : (l : List A) (d : A) → ((a : A) → List·Memᴰ a l → B a) → B d → (i : ℕ) → B (getD l i d)
+  at-each [] d h b i = b
+  at-each (x ∷ l) d h b zero = h x (List·Memᴰ·head refl)
+  at-each (x ∷ l) d h b (suc i) = at-each l d (λ a m. h a (List·Memᴰ·tail m)) b i
+
 module _ {ℓ κ} {A : Type ℓ} {B : Type κ} where
   -- two functions that agree on the list
   pub map-same : (f g : A → B) (l : List A) → ((a : A) → List·Memᴰ a l → f a ≡ g a) → map f l ≡ map g l
@@ -118,6 +125,11 @@ module _ {ℓ κ} {A : Type ℓ} {B : Type κ} where
   pub flatMap-append : (f : A → List B) (l l′ : List A) → flatMap f (l ++ l′) ≡ flatMap f l ++ flatMap f l′
   flatMap-append f [] l′ = refl
   flatMap-append f (x ∷ l) l′ = ap (λ k. f x ++ k) (flatMap-append f l l′) ∙ sym (append-assoc (f x) (flatMap f l) (flatMap f l′))
+
+  -- lists of one length
+  pub flatMap-length : (f : A → List B) (size : ℕ) (l : List A) → ((a : A) → length (f a) ≡ size) → length (flatMap f l) ≡ size * length l
+  flatMap-length f size [] h = sym (mul-zero size)
+  flatMap-length f size (a ∷ l) h = rw (length-append, mul-suc) (omega (arith, h a, flatMap-length f size l h))
 
   -- what is in the list of an element
   pub mem-of-flatMap : (f : A → List B) (l : List A) {b : B} → List·Memᴰ b (flatMap f l) → (a : A) × List·Memᴰ a l × List·Memᴰ b (f a)

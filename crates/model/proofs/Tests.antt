@@ -4,12 +4,12 @@ use mathlib.Core.Path.{_≡_, refl, sym, _∙_, ap, ap₂, subst}
 use mathlib.Core.Bool.{Bool, true, false, _&&_, _||_, and-false, false≢true}
 use mathlib.Core.Logic.{_↔_, _⊎_, inl, inr, ⊎-elim}
 use mathlib.Core.List.{List, [], _∷_, List·Memᴰ, List·Memᴰ·head, List·Memᴰ·tail, List·Memᴰ·not-nil, List·Memᴰ·cases-cons}
-use Prim.Native.Nat.{ℕ, zero, suc, _<_}
+use Prim.Native.Nat.{ℕ, zero, suc, _<_, _≤_}
 use native.Mathlib.Omega.{arith}
 use lib.Dec.{T, eqb}
 use lib.ListN.{length, getD}
 use borrow.Author.Tests.{eqb-true, eq-eqb}
-use Rattle.model.specs.Lists.{all, sameBy, sameNumbers}
+use Rattle.model.specs.Lists.{all, sameBy, sameNumbers, one}
 use Rattle.model.proofs.Plan.{both}
 
 -- a test that holds is true
@@ -29,6 +29,11 @@ holds e = subst T (sym e) tt
 -- a false test does not hold
 pub fails : {b : Bool} → b ≡ false → T b → ⊥
 fails e h = subst T e h
+
+-- a test counts once at most
+pub one-le : (b : Bool) → one b ≤ 1
+one-le true = omega arith
+one-le false = omega arith
 
 -- two tests that imply each other are equal
 pub same-test : (a b : Bool) → (T a → T b) → (T b → T a) → a ≡ b

@@ -1,20 +1,20 @@
--- The marked cases of document 01, as the requests leave them: one table, and one theorem that the definitions give every line of it. Beside
+-- The marked cases of document 01, as the requests leave them, in the long-read edition's widths: one table, and one theorem that the definitions give every line of it. Beside
 -- it, since passes are a relation and no function, those of the request about passes.
 use mathlib.Core.Path.{_≡_, refl}
-use Prim.Native.Nat.{ℕ}
+use Prim.Native.Nat.{ℕ, suc}
 use mathlib.Core.List.{List, [], _∷_, _++_, map}
 use mathlib.Core.Option.{Option, none, some}
 use lib.IntN.{ℤ, pos, negsuc}
-use lib.ListN.{length}
+use lib.ListN.{length, replicate}
 use Rattle.model.specs.Limits.{workRoom, traceRoom}
 use Rattle.model.specs.Lists.{flatMap, upFrom}
 use Rattle.model.specs.Discovery.{found}
 use Rattle.model.specs.Bytes.{number, signed}
-use Rattle.model.specs.Plan.{Plan, sound, readPlan, readFrom, firstFault, fault, after, width, mayFollow, inRange, taskInRange, arcInRange}
+use Rattle.model.specs.Plan.{Plan, sound, readPlan, readPlanIn, readFrom, firstFault, fault, after, width, lastOperand, mayFollow, inRange, taskInRange, arcInRange}
 use Rattle.model.specs.Slot.{Done, slot, ready, first, key}
 use Rattle.model.specs.Masks.{masksOf}
 use Rattle.model.specs.Graph.{choices, edgeOf, edgesAt, edges, nodes, tooLarge}
-use Rattle.model.specs.Certificate.{Certificate, readCertificate, readPotentials, readSteps}
+use Rattle.model.specs.Certificate.{Certificate, readCertificate, readCertificateIn, readPotentials, readSteps}
 use Rattle.model.specs.Check.{CheckAnswer, check, verdict, fractionOk, gcd, potentialsOk, cycleOk, follow, allowance}
 use Rattle.model.specs.Thousandths.{thousandths}
 use Rattle.model.specs.Passes.{beginning, relaxNode, pass, PassesTo, last, more}
@@ -63,27 +63,27 @@ infix 10 _gives_
 abbrev pub _gives_ : Input → Output → Case
 i gives o = record { input = i; output = o }
 
--- A: `01 01 01 01 02 01 03 01 04 00 00 00 04 00 01 00 05`
+-- A: `01 01 01 00 01 02 01 03 01 04 00 00 00 04 00 01 00 05`
 abbrev pub planA : List ℕ
-planA = 0x01 ∷ 0x01 ∷ 0x01 ∷ 0x01 ∷ 0x02 ∷ 0x01 ∷ 0x03 ∷ 0x01 ∷ 0x04 ∷ 0x00 ∷ 0x00 ∷ 0x00 ∷ 0x04 ∷ 0x00 ∷ 0x01 ∷ 0x00 ∷ 0x05 ∷ []
+planA = 0x01 ∷ 0x01 ∷ 0x01 ∷ 0x00 ∷ 0x01 ∷ 0x02 ∷ 0x01 ∷ 0x03 ∷ 0x01 ∷ 0x04 ∷ 0x00 ∷ 0x00 ∷ 0x00 ∷ 0x04 ∷ 0x00 ∷ 0x01 ∷ 0x00 ∷ 0x05 ∷ []
 
 -- B: tasks (1,1,1) and (2,2,3), EDF, one state admitting labels 0 to 3
 abbrev pub planB : List ℕ
-planB = 0x01 ∷ 0x01 ∷ 0x01 ∷ 0x01 ∷ 0x01 ∷ 0x02 ∷ 0x02 ∷ 0x03 ∷ 0x02 ∷ 0x01 ∷ 0x03 ∷ 0x01 ∷ 0x04 ∷ 0x00 ∷ 0x00 ∷ 0x00 ∷ 0x04 ∷ 0x00 ∷ 0x01 ∷ 0x00 ∷ 0x04 ∷ 0x00 ∷ 0x02 ∷ 0x00 ∷ 0x04 ∷ 0x00 ∷ 0x03 ∷ 0x00 ∷ 0x05 ∷ []
+planB = 0x01 ∷ 0x01 ∷ 0x01 ∷ 0x00 ∷ 0x01 ∷ 0x01 ∷ 0x02 ∷ 0x02 ∷ 0x00 ∷ 0x03 ∷ 0x02 ∷ 0x01 ∷ 0x03 ∷ 0x01 ∷ 0x04 ∷ 0x00 ∷ 0x00 ∷ 0x00 ∷ 0x04 ∷ 0x00 ∷ 0x01 ∷ 0x00 ∷ 0x04 ∷ 0x00 ∷ 0x02 ∷ 0x00 ∷ 0x04 ∷ 0x00 ∷ 0x03 ∷ 0x00 ∷ 0x05 ∷ []
 
 -- C: task (1,1,1), state 0 admits 1 to state 1, which admits 0 to itself
 abbrev pub planC : List ℕ
-planC = 0x01 ∷ 0x01 ∷ 0x01 ∷ 0x01 ∷ 0x02 ∷ 0x01 ∷ 0x03 ∷ 0x02 ∷ 0x04 ∷ 0x00 ∷ 0x01 ∷ 0x01 ∷ 0x04 ∷ 0x01 ∷ 0x00 ∷ 0x01 ∷ 0x05 ∷ []
+planC = 0x01 ∷ 0x01 ∷ 0x01 ∷ 0x00 ∷ 0x01 ∷ 0x02 ∷ 0x01 ∷ 0x03 ∷ 0x02 ∷ 0x04 ∷ 0x00 ∷ 0x01 ∷ 0x01 ∷ 0x04 ∷ 0x01 ∷ 0x00 ∷ 0x01 ∷ 0x05 ∷ []
 
 -- D: plan A without its two `04`
 abbrev pub planD : List ℕ
-planD = 0x01 ∷ 0x01 ∷ 0x01 ∷ 0x01 ∷ 0x02 ∷ 0x01 ∷ 0x03 ∷ 0x01 ∷ 0x05 ∷ []
+planD = 0x01 ∷ 0x01 ∷ 0x01 ∷ 0x00 ∷ 0x01 ∷ 0x02 ∷ 0x01 ∷ 0x03 ∷ 0x01 ∷ 0x05 ∷ []
 
 abbrev pub certificateA : List ℕ
-certificateA = 0x11 ∷ 0x00 ∷ 0x00 ∷ 0x00 ∷ 0x01 ∷ 0x00 ∷ 0x00 ∷ 0x00 ∷ 0x01 ∷ 0x00 ∷ 0x01 ∷ 0x12 ∷ 0x00 ∷ 0x00 ∷ 0x00 ∷ 0x00 ∷ 0x00 ∷ 0x00 ∷ 0x00 ∷ 0x00 ∷ 0x13 ∷ 0x00 ∷ 0x00 ∷ 0x14 ∷ 0x01 ∷ 0x01 ∷ 0x00 ∷ 0x00 ∷ 0x00 ∷ 0x15 ∷ []
+certificateA = 0x11 ∷ 0x00 ∷ 0x00 ∷ 0x00 ∷ 0x01 ∷ 0x00 ∷ 0x00 ∷ 0x00 ∷ 0x01 ∷ 0x00 ∷ 0x01 ∷ 0x12 ∷ 0x00 ∷ 0x00 ∷ 0x00 ∷ 0x00 ∷ 0x00 ∷ 0x00 ∷ 0x00 ∷ 0x00 ∷ 0x13 ∷ 0x00 ∷ 0x00 ∷ 0x14 ∷ 0x01 ∷ 0x00 ∷ 0x01 ∷ 0x00 ∷ 0x00 ∷ 0x00 ∷ 0x00 ∷ 0x00 ∷ 0x00 ∷ 0x15 ∷ []
 
 abbrev pub certificateB : List ℕ
-certificateB = 0x11 ∷ 0x00 ∷ 0x00 ∷ 0x00 ∷ 0x00 ∷ 0x00 ∷ 0x00 ∷ 0x00 ∷ 0x01 ∷ 0x00 ∷ 0x05 ∷ 0x12 ∷ 0x00 ∷ 0x00 ∷ 0x00 ∷ 0x00 ∷ 0x00 ∷ 0x00 ∷ 0x00 ∷ 0x00 ∷ 0x12 ∷ 0x00 ∷ 0x00 ∷ 0x00 ∷ 0x00 ∷ 0x00 ∷ 0x00 ∷ 0x00 ∷ 0x00 ∷ 0x12 ∷ 0x00 ∷ 0x00 ∷ 0x00 ∷ 0x00 ∷ 0x00 ∷ 0x00 ∷ 0x00 ∷ 0x00 ∷ 0x12 ∷ 0x00 ∷ 0x00 ∷ 0x00 ∷ 0x00 ∷ 0x00 ∷ 0x00 ∷ 0x00 ∷ 0x01 ∷ 0x12 ∷ 0x00 ∷ 0x00 ∷ 0x00 ∷ 0x00 ∷ 0x00 ∷ 0x00 ∷ 0x00 ∷ 0x01 ∷ 0x13 ∷ 0x00 ∷ 0x04 ∷ 0x14 ∷ 0x02 ∷ 0x00 ∷ 0x00 ∷ 0x00 ∷ 0x00 ∷ 0x14 ∷ 0x02 ∷ 0x00 ∷ 0x03 ∷ 0x00 ∷ 0x00 ∷ 0x15 ∷ []
+certificateB = 0x11 ∷ 0x00 ∷ 0x00 ∷ 0x00 ∷ 0x00 ∷ 0x00 ∷ 0x00 ∷ 0x00 ∷ 0x01 ∷ 0x00 ∷ 0x05 ∷ 0x12 ∷ 0x00 ∷ 0x00 ∷ 0x00 ∷ 0x00 ∷ 0x00 ∷ 0x00 ∷ 0x00 ∷ 0x00 ∷ 0x12 ∷ 0x00 ∷ 0x00 ∷ 0x00 ∷ 0x00 ∷ 0x00 ∷ 0x00 ∷ 0x00 ∷ 0x00 ∷ 0x12 ∷ 0x00 ∷ 0x00 ∷ 0x00 ∷ 0x00 ∷ 0x00 ∷ 0x00 ∷ 0x00 ∷ 0x00 ∷ 0x12 ∷ 0x00 ∷ 0x00 ∷ 0x00 ∷ 0x00 ∷ 0x00 ∷ 0x00 ∷ 0x00 ∷ 0x01 ∷ 0x12 ∷ 0x00 ∷ 0x00 ∷ 0x00 ∷ 0x00 ∷ 0x00 ∷ 0x00 ∷ 0x00 ∷ 0x01 ∷ 0x13 ∷ 0x00 ∷ 0x04 ∷ 0x14 ∷ 0x02 ∷ 0x00 ∷ 0x00 ∷ 0x00 ∷ 0x00 ∷ 0x00 ∷ 0x00 ∷ 0x00 ∷ 0x00 ∷ 0x14 ∷ 0x02 ∷ 0x00 ∷ 0x00 ∷ 0x00 ∷ 0x03 ∷ 0x00 ∷ 0x00 ∷ 0x00 ∷ 0x00 ∷ 0x15 ∷ []
 
 abbrev pub certificateC : List ℕ
 certificateC = 0x11 ∷ 0x00 ∷ 0x00 ∷ 0x00 ∷ 0x01 ∷ 0x00 ∷ 0x00 ∷ 0x00 ∷ 0x00 ∷ 0x00 ∷ 0x02 ∷ 0x12 ∷ 0x00 ∷ 0x00 ∷ 0x00 ∷ 0x00 ∷ 0x00 ∷ 0x00 ∷ 0x00 ∷ 0x00 ∷ 0x12 ∷ 0xff ∷ 0xff ∷ 0xff ∷ 0xff ∷ 0xff ∷ 0xff ∷ 0xff ∷ 0xff ∷ 0x15 ∷ []
@@ -91,16 +91,31 @@ certificateC = 0x11 ∷ 0x00 ∷ 0x00 ∷ 0x00 ∷ 0x01 ∷ 0x00 ∷ 0x00 ∷ 0x
 abbrev pub certificateD : List ℕ
 certificateD = 0x11 ∷ 0x00 ∷ 0x00 ∷ 0x00 ∷ 0x01 ∷ 0x00 ∷ 0x00 ∷ 0x00 ∷ 0x00 ∷ 0x00 ∷ 0x01 ∷ 0x12 ∷ 0x00 ∷ 0x00 ∷ 0x00 ∷ 0x00 ∷ 0x00 ∷ 0x00 ∷ 0x00 ∷ 0x00 ∷ 0x15 ∷ []
 
+-- F, of our own: task (10,10,1), EDF, a job every ten slots; its cycle has the mask of ten ones, `03 ff`
+abbrev pub planF : List ℕ
+planF =
+    0x01 ∷ 0x0a ∷ 0x0a ∷ 0x00 ∷ 0x01 ∷ 0x02 ∷ 0x01 ∷ 0x03 ∷ 0x0a ∷ 0x04 ∷ 0x00 ∷ 0x01 ∷ 0x01
+    ∷ (flatMap (λ s. 0x04 ∷ s ∷ 0x00 ∷ suc s ∷ []) (upFrom 1 8) ++ (0x04 ∷ 0x09 ∷ 0x00 ∷ 0x00 ∷ 0x05 ∷ []))
+
+abbrev pub certificateF : List ℕ
+certificateF =
+    let kept : List ℕ = 0x12 ∷ replicate 8 0x00 in
+    let owed : List ℕ = 0x12 ∷ replicate 8 0xff in
+    (0x11 ∷ 0x00 ∷ 0x00 ∷ 0x00 ∷ 0x01 ∷ 0x00 ∷ 0x00 ∷ 0x00 ∷ 0x01 ∷ 0x00 ∷ 0x13 ∷ kept)
+    ++ (flatMap (λ i. kept ++ owed) (upFrom 1 9)
+    ++ ((0x13 ∷ 0x00 ∷ 0x00 ∷ 0x14 ∷ 0x01 ∷ 0x03 ∷ 0xff ∷ replicate 6 0x00)
+    ++ (flatMap (λ i. 0x14 ∷ replicate 9 0x00) (upFrom 1 9) ++ (0x15 ∷ []))))
+
 -- plan D with another task
 abbrev pub withTask : ℕ → ℕ → ℕ → List ℕ
-withTask c d v = 0x01 ∷ c ∷ d ∷ v ∷ 0x02 ∷ 0x01 ∷ 0x03 ∷ 0x01 ∷ 0x05 ∷ []
+withTask c d v = 0x01 ∷ c ∷ d ∷ 0x00 ∷ v ∷ 0x02 ∷ 0x01 ∷ 0x03 ∷ 0x01 ∷ 0x05 ∷ []
 
 -- plan D with the task five times
 abbrev pub fiveTasks : List ℕ
-fiveTasks = flatMap (λ i. 0x01 ∷ 0x01 ∷ 0x01 ∷ 0x01 ∷ []) (upFrom 1 4) ++ planD
+fiveTasks = flatMap (λ i. 0x01 ∷ 0x01 ∷ 0x01 ∷ 0x00 ∷ 0x01 ∷ []) (upFrom 1 4) ++ planD
 
 -- "Case B with labels 3, 0 now runs task 1, then task 2, and gains 1, then 0; its fraction becomes 0/1 with m 0"; "1/16 prints 62 and 3/16
--- prints 188", "`none` is kept for 1/0", and 1/3, of which the rest is 1 and no half of 3
+-- prints 188", "`none` is kept for 1/0", and 1/3, of which the rest is 1 and no half of 3; "with D 11 in place of D 9"
 abbrev pub cases : List Case
 cases =
     (checking planA certificateA gives line 1 1 1 0 (some 1000))
@@ -110,12 +125,13 @@ cases =
     ∷ (checking planC certificateC gives line 1 0 2 1 none)
     ∷ (potentials certificateC gives signs (pos 0 ∷ negsuc 0 ∷ []))
     ∷ (checking planD certificateD gives line 1 0 1 0 none)
+    ∷ (checking planF certificateF gives line 1 1 19 1 (some 1000))
     ∷ (printing 1 16 gives prints (some 62))
     ∷ (printing 3 16 gives prints (some 188))
     ∷ (printing 1 3 gives prints (some 333))
     ∷ (printing 1 0 gives prints none)
     ∷ (checking [] [] gives refusal 1)
-    ∷ (checking (withTask 1 9 1) [] gives refusal 4)
+    ∷ (checking (withTask 1 11 1) [] gives refusal 4)
     ∷ (checking (withTask 1 1 0) [] gives refusal 4)
     ∷ (checking (withTask 3 2 1) [] gives refusal 4)
     ∷ (checking fiveTasks [] gives refusal 3)
@@ -123,14 +139,14 @@ cases =
 
 -- the definitions give every case its output
 pub marked : map (λ c. outcome (c .input)) cases ≡ map (λ c. c .output) cases
-unfolding number signed readPlan readFrom firstFault fault after width mayFollow inRange taskInRange arcInRange slot ready first key masksOf choices edgeOf edgesAt edges found nodes tooLarge readCertificate readPotentials readSteps check verdict fractionOk gcd potentialsOk cycleOk follow allowance thousandths trace traceRun
+unfolding number signed readPlanIn readFrom firstFault fault after width lastOperand mayFollow inRange taskInRange arcInRange slot ready first key masksOf choices edgeOf edgesAt edges found nodes tooLarge readCertificateIn readPotentials readSteps check verdict fractionOk gcd potentialsOk cycleOk follow allowance thousandths trace traceRun
 marked = refl
 
 -- ---- the passes of A, B and C, and of a plan whose nodes have to be taken by number
 
 -- E, of the second implementation: task (2,2,69), SRT, one state admitting labels 0 and 1
 abbrev pub planE : List ℕ
-planE = 0x01 ∷ 0x02 ∷ 0x02 ∷ 0x45 ∷ 0x02 ∷ 0x02 ∷ 0x03 ∷ 0x01 ∷ 0x04 ∷ 0x00 ∷ 0x00 ∷ 0x00 ∷ 0x04 ∷ 0x00 ∷ 0x01 ∷ 0x00 ∷ 0x05 ∷ []
+planE = 0x01 ∷ 0x02 ∷ 0x02 ∷ 0x00 ∷ 0x45 ∷ 0x02 ∷ 0x02 ∷ 0x03 ∷ 0x01 ∷ 0x04 ∷ 0x00 ∷ 0x00 ∷ 0x00 ∷ 0x04 ∷ 0x00 ∷ 0x01 ∷ 0x00 ∷ 0x05 ∷ []
 
 -- the plans
 abbrev pub readA : Plan
@@ -152,22 +168,22 @@ pub record PassesFor (plan : List ℕ) (P : Plan) (p q : ℕ) (zs : List ℤ) (k
 
 -- "1 in case A, 2 in case C", and 2 in case B
 pub passes-A : PassesFor planA readA 1 1 (pos 0 ∷ []) 1
-unfolding number readPlan readFrom firstFault fault after width mayFollow inRange taskInRange arcInRange slot ready first key masksOf choices edgeOf edgesAt edges found nodes relaxNode pass
+unfolding number readPlanIn readFrom firstFault fault after width lastOperand mayFollow inRange taskInRange arcInRange slot ready first key masksOf choices edgeOf edgesAt edges found nodes relaxNode pass
 passes-A = record { read = refl; passes = last refl }
 
 pub passes-B : PassesFor planB readB 0 1 (pos 0 ∷ pos 0 ∷ pos 0 ∷ pos 1 ∷ pos 1 ∷ []) 2
-unfolding number readPlan readFrom firstFault fault after width mayFollow inRange taskInRange arcInRange slot ready first key masksOf choices edgeOf edgesAt edges found nodes relaxNode pass
+unfolding number readPlanIn readFrom firstFault fault after width lastOperand mayFollow inRange taskInRange arcInRange slot ready first key masksOf choices edgeOf edgesAt edges found nodes relaxNode pass
 passes-B =
     let end = map some (pos 0 ∷ pos 0 ∷ pos 0 ∷ pos 1 ∷ pos 1 ∷ []) in
     record { read = refl; passes = more {ds = beginning 5} {es = end} refl (last {ds = end} refl) }
 
 pub passes-C : PassesFor planC readC 1 0 (pos 0 ∷ negsuc 0 ∷ []) 2
-unfolding number readPlan readFrom firstFault fault after width mayFollow inRange taskInRange arcInRange slot ready first key masksOf choices edgeOf edgesAt edges found nodes relaxNode pass
+unfolding number readPlanIn readFrom firstFault fault after width lastOperand mayFollow inRange taskInRange arcInRange slot ready first key masksOf choices edgeOf edgesAt edges found nodes relaxNode pass
 passes-C = record { read = refl; passes = more refl (last refl) }
 
 -- and 2 for E, since a node's distance that a pass finds serves the nodes after it in the same pass
 pub passes-E : PassesFor planE readE 0 1 (pos 0 ∷ pos 0 ∷ pos 0 ∷ pos 69 ∷ pos 69 ∷ []) 2
-unfolding number readPlan readFrom firstFault fault after width mayFollow inRange taskInRange arcInRange slot ready first key masksOf choices edgeOf edgesAt edges found nodes relaxNode pass
+unfolding number readPlanIn readFrom firstFault fault after width lastOperand mayFollow inRange taskInRange arcInRange slot ready first key masksOf choices edgeOf edgesAt edges found nodes relaxNode pass
 passes-E =
     let end = map some (pos 0 ∷ pos 0 ∷ pos 0 ∷ pos 69 ∷ pos 69 ∷ []) in
     record { read = refl; passes = more {ds = beginning 5} {es = end} refl (last {ds = end} refl) }

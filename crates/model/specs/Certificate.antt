@@ -1,16 +1,17 @@
 -- A certificate, its bytes, and their reading.
-use Prim.Native.Nat.{ℕ, zero, suc, _+_}
+use Prim.Native.Nat.{ℕ, zero, suc, _+_, _*_}
 use mathlib.Core.Bool.{Bool, cond, _&&_}
-use mathlib.Core.List.{List, [], _∷_, _++_}
+use mathlib.Core.List.{List, [], _∷_, _++_, map}
 use mathlib.Core.Option.{Option, none, some}
 use lib.Dec.{leb, ltb, eqb}
 use lib.IntN.{ℤ}
 use lib.ListN.{length, getD, drop}
 use Rattle.model.specs.Limits.{maxTasks, maxNodes, maxSteps}
-use Rattle.model.specs.Lists.{flatMap}
+use Rattle.model.specs.Edition.{Edition, longReads}
+use Rattle.model.specs.Lists.{flatMap, upFrom}
 use Rattle.model.specs.Bytes.{number, bytes, signed, complement, part}
 
--- a step of the cycle: "label and four masks (a byte each; 0 for a task the plan lacks ..)"
+-- a step of the cycle: "label and four masks (..; 0 for a task the plan lacks ..)"
 pub record Step : Type 0 where
   pub label : ℕ
   pub masks : List ℕ
@@ -24,17 +25,24 @@ pub record Certificate : Type 0 where
 
 -- ---- written
 
+-- "`14` label and four masks", each of the edition's bytes
+abbrev pub stepBytes : Edition → Step → List ℕ
+stepBytes e s = 0x14 ∷ s .label ∷ flatMap (bytes (e .maskWidth)) (s .masks)
+
 -- "`13` node (2); 1 to 1,024 times `14` label and four masks"
-abbrev pub cycleBytes : Certificate → List ℕ
-cycleBytes c = (0x13 ∷ bytes 2 (c .node)) ++ flatMap (λ s. 0x14 ∷ s .label ∷ s .masks) (c .steps)
+abbrev pub cycleBytes : Edition → Certificate → List ℕ
+cycleBytes e c = (0x13 ∷ bytes 2 (c .node)) ++ flatMap (stepBytes e) (c .steps)
 
 -- "`11` p (4 bytes) q (4) N (2); N times `12` potential (8, two's complement) ..; `15` end. `13` and `14` are missing exactly when q = 0."
-unfoldable pub certificateBytes : Certificate → List ℕ
-certificateBytes c =
+unfoldable pub certificateBytesIn : Edition → Certificate → List ℕ
+certificateBytesIn e c =
     (0x11 ∷ bytes 4 (c .p)) ++ bytes 4 (c .q) ++ bytes 2 (length (c .potentials))
     ++ flatMap (λ z. 0x12 ∷ bytes 8 (complement z)) (c .potentials)
-    ++ cond (eqb (c .q) 0) [] (cycleBytes c)
+    ++ cond (eqb (c .q) 0) [] (cycleBytes e c)
     ++ (0x15 ∷ [])
+
+abbrev pub certificateBytes : Certificate → List ℕ
+certificateBytes c = certificateBytesIn longReads c
 
 -- ---- read, "in order from its first byte"; none where the form has any fault
 
@@ -58,12 +66,20 @@ readPotentials (suc n) bs =
     let more = consParsed (signed (number (part bs 1 8))) (readPotentials n (drop 9 bs)) in
     cond (has bs 0x12 9) more none
 
+-- the bytes of a step with its command
+abbrev pub stepWidth : Edition → ℕ
+stepWidth e = 2 + e .maskWidth * maxTasks
+
+-- the masks of the step at the head
+abbrev pub masksAt : Edition → List ℕ → List ℕ
+masksAt e bs = map (λ i. number (part bs (2 + e .maskWidth * i) (e .maskWidth))) (upFrom 0 maxTasks)
+
 -- `14` label and four masks, up to n times
-unfoldable pub readSteps : ℕ → List ℕ → Option (Parsed (List Step))
-readSteps zero bs = some (record { value = []; rest = bs })
-readSteps (suc n) bs =
-    let more = consParsed (record { label = getD bs 1 0; masks = part bs 2 maxTasks }) (readSteps n (drop (2 + maxTasks) bs)) in
-    let here = cond (leb (2 + maxTasks) (length bs)) more none in
+unfoldable pub readSteps : Edition → ℕ → List ℕ → Option (Parsed (List Step))
+readSteps e zero bs = some (record { value = []; rest = bs })
+readSteps e (suc n) bs =
+    let more = consParsed (record { label = getD bs 1 0; masks = masksAt e bs }) (readSteps e n (drop (stepWidth e) bs)) in
+    let here = cond (leb (stepWidth e) (length bs)) more none in
     cond (eqb (getD bs 0 0) 0x14) here (some (record { value = []; rest = bs }))
 
 -- `15` end, and nothing after it
@@ -78,16 +94,19 @@ withSteps p q zs v (some r) =
     (some (record { p = p; q = q; potentials = zs; node = v; steps = r .value })) none
 
 -- the potentials are read; "`13` and `14` are missing exactly when q = 0"
-abbrev pub withPotentials : ℕ → ℕ → Option (Parsed (List ℤ)) → Option Certificate
-withPotentials p q none = none
-withPotentials p q (some r) =
+abbrev pub withPotentials : Edition → ℕ → ℕ → Option (Parsed (List ℤ)) → Option Certificate
+withPotentials e p q none = none
+withPotentials e p q (some r) =
     let bare : Option Certificate = cond (isEnd (r .rest)) (some (record { p = p; q = q; potentials = r .value; node = 0; steps = [] })) none in
-    let full : Option Certificate = cond (has (r .rest) 0x13 3) (withSteps p q (r .value) (number (part (r .rest) 1 2)) (readSteps maxSteps (drop 3 (r .rest)))) none in
+    let full : Option Certificate = cond (has (r .rest) 0x13 3) (withSteps p q (r .value) (number (part (r .rest) 1 2)) (readSteps e maxSteps (drop 3 (r .rest)))) none in
     cond (eqb q 0) bare full
 
 -- "N is 1 to 1,024."
-unfoldable pub readCertificate : List ℕ → Option Certificate
-readCertificate bs =
+unfoldable pub readCertificateIn : Edition → List ℕ → Option Certificate
+readCertificateIn e bs =
     let n = number (part bs 9 2) in
-    let c = withPotentials (number (part bs 1 4)) (number (part bs 5 4)) (readPotentials n (drop 11 bs)) in
+    let c = withPotentials e (number (part bs 1 4)) (number (part bs 5 4)) (readPotentials n (drop 11 bs)) in
     cond (has bs 0x11 11 && leb 1 n && leb n maxNodes) c none
+
+abbrev pub readCertificate : List ℕ → Option Certificate
+readCertificate bs = readCertificateIn longReads bs

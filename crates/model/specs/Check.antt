@@ -26,7 +26,7 @@ gcdIn (suc n) a (suc b) = gcdIn n (suc b) (a % suc b)
 unfoldable pub gcd : ℕ → ℕ → ℕ
 gcd a b = gcdIn (suc b) a b
 
--- "the fraction is in lowest terms with p ≤ 261,120 and 1 ≤ q ≤ 1,044,480, or is 1/0"
+-- "the fraction is in lowest terms with p ≤ 67,107,840 and 1 ≤ q ≤ 268,431,360, or is 1/0"
 unfoldable pub fractionOk : ℕ → ℕ → Bool
 fractionOk p q = (eqb p 1 && eqb q 0) || (eqb (gcd p q) 1 && leb p maxP && leb 1 q && leb q maxQ)
 
@@ -36,7 +36,7 @@ fractionOk p q = (eqb p 1 && eqb q 0) || (eqb (gcd p q) 1 && leb p maxP && leb 1
 abbrev pub potentialAt : List ℤ → ℕ → ℤ
 potentialAt zs i = getD zs i (pos 0)
 
--- "every potential lies within ±2^40"
+-- "every potential lies within ±2^56"
 abbrev pub withinLimit : ℤ → Bool
 withinLimit z = leb (natAbs z) maxPotential
 

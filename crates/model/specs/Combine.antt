@@ -6,7 +6,8 @@ use mathlib.Core.List.{List, List·Memᴰ}
 use mathlib.Core.Option.{Option, none, some}
 use lib.Dec.{ltb, eqb}
 use lib.ListN.{length, getD}
-use Rattle.model.specs.Limits.{maxStates, planRoom}
+use Rattle.model.specs.Limits.{maxStates}
+use Rattle.model.specs.Edition.{planRoom}
 use Rattle.model.specs.Refusals.{outOfRange, tooManyPairs}
 use Rattle.model.specs.Lists.{flatMap, upFrom, listOf, sameBy}
 use Rattle.model.specs.Discovery.{found, numberIn}

@@ -7,7 +7,8 @@ use mathlib.Core.Logic.{_↔_, _⊎_}
 use mathlib.Core.Option.{Option, none, some}
 use lib.Dec.{T, eqb}
 use lib.ListN.{length, getD}
-use Rattle.model.specs.Limits.{maxGap, planRoom}
+use Rattle.model.specs.Limits.{maxGap}
+use Rattle.model.specs.Edition.{planRoom}
 use Rattle.model.specs.Refusals.{badGap}
 use Rattle.model.specs.Lists.{bit, one, sum}
 use Rattle.model.specs.Plan.{Plan, between, readPlan}

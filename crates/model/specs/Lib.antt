@@ -1,4 +1,5 @@
 pub mod Limits
+pub mod Edition
 pub mod Refusals
 pub mod Lists
 pub mod Discovery

@@ -1,17 +1,17 @@
--- The numbers of document 01 that a later request may change, each named once.
+-- The numbers of documents 01 and 02 that a request may change, each named once.
 use Prim.Native.Nat.{ℕ, _^_}
 
 -- tasks are given one to four times
 abbrev pub maxTasks : ℕ
 maxTasks = 4
 
--- the longest window D, so the width of a mask and of the pattern
+-- "D goes to 10": the longest window of all editions, so the width of a mask and of the pattern
 abbrev pub maxWindow : ℕ
-maxWindow = 8
+maxWindow = 10
 
--- V is 1 to 255
+-- "V becomes two bytes (1 to 65,535)": the largest of all editions
 abbrev pub maxValue : ℕ
-maxValue = 255
+maxValue = 65535
 
 -- M states, 1 to 16
 abbrev pub maxStates : ℕ
@@ -29,34 +29,26 @@ maxSteps = 1024
 abbrev pub maxLabels : ℕ
 maxLabels = 4096
 
--- p ≤ 261,120 and q ≤ 1,044,480: over a cycle of 1,024 edges the policy gains at most one V a slot, the clairvoyant four
+-- "p goes to 67,107,840, q to 268,431,360": over a cycle of 1,024 edges the policy gains at most one V a slot, the clairvoyant four
 abbrev pub maxP : ℕ
-maxP = 261120
+maxP = 67107840
 
 abbrev pub maxQ : ℕ
-maxQ = 1044480
+maxQ = 268431360
 
--- every potential lies within ±2^40
+-- "potentials to ±2^56"
 abbrev pub maxPotential : ℕ
-maxPotential = 2 ^ 40
+maxPotential = 2 ^ 56
 
--- the bytes of work memory, and the most that a certificate and a trace take
+-- the bytes of work memory, and the most that a certificate ("to 19,471 bytes") and a trace take
 abbrev pub workRoom : ℕ
 workRoom = 65536
 
 abbrev pub certificateRoom : ℕ
-certificateRoom = 15375
+certificateRoom = 19471
 
 abbrev pub traceRoom : ℕ
 traceRoom = 12288
-
--- V is one byte of a plan
-abbrev pub valueWidth : ℕ
-valueWidth = 1
-
--- the longest plan: four tasks, policy, states, an arc for each pair of a state and a label, end
-abbrev pub planRoom : ℕ
-planRoom = 1045
 
 -- a gap is of 1 to 16 slots: its automaton has as many states
 abbrev pub maxGap : ℕ

@@ -1,4 +1,4 @@
--- Masks of eight bits, and the order of the constant table.
+-- Masks of ten bits, and the order of the constant table.
 use Prim.Native.Nat.{ℕ, suc, _-_, _^_}
 use mathlib.Core.Bool.{Bool, true, false, _&&_}
 use mathlib.Core.List.{List, [], _∷_}
@@ -9,7 +9,7 @@ use Rattle.model.specs.Limits.{maxWindow}
 use Rattle.model.specs.Lists.{keep, flatMap, upFrom, ones}
 use Rattle.model.specs.Plan.{Task}
 
--- "All 256 masks"
+-- "The mask table grows to 1,024 entries"
 abbrev pub maskCount : ℕ
 maskCount = 2 ^ maxWindow
 

@@ -1,12 +1,15 @@
 -- A plan: its tasks, its policy, and the automaton of admitted labels; and the reading of plan bytes.
 use mathlib.Core.Path.{_≡_}
-use Prim.Native.Nat.{ℕ, zero, suc, _^_}
+use Prim.Native.Nat.{ℕ, zero, suc, _-_, _^_}
 use mathlib.Core.Bool.{Bool, true, false, cond, not, _&&_, _||_}
-use mathlib.Core.List.{List, [], _∷_, _++_}
+use mathlib.Core.List.{List, [], _∷_, _++_, map}
 use mathlib.Core.Option.{Option, none, some}
 use lib.Dec.{leb, ltb, eqb}
 use lib.ListN.{length, getD, drop}
-use Rattle.model.specs.Limits.{maxTasks, maxWindow, maxValue, maxStates}
+use Rattle.model.specs.Limits.{maxTasks, maxStates}
+use Rattle.model.specs.Edition.{Edition, longReads, taskWidth}
+use Rattle.model.specs.Lists.{upFrom}
+use Rattle.model.specs.Bytes.{number}
 use Rattle.model.specs.Refusals.{bytesEnd, unknownCommand, outOfPlace, outOfRange}
 
 pub record Task : Type 0 where
@@ -62,8 +65,13 @@ abbrev pub unknown : ℕ → Bool
 unknown c = not (between 1 c 5)
 
 -- "operands have fixed widths": the bytes of a command with its operands
-unfoldable pub width : ℕ → ℕ
-width c = cond (eqb c 1 || eqb c 4) 4 (cond (eqb c 5) 1 2)
+unfoldable pub width : Edition → ℕ → ℕ
+width e c = cond (eqb c 1) (taskWidth e) (cond (eqb c 4) 4 (cond (eqb c 5) 1 2))
+
+-- the last operand, V or T, "most significant byte first": the bytes of the command past its first two operands; those that are not
+-- there count as 0
+unfoldable pub lastOperand : Edition → ℕ → List ℕ → ℕ
+lastOperand e c bs = number (map (λ i. getD bs i 0) (upFrom 2 (width e c - 3)))
 
 -- whether a command may follow those read: tasks first, "one to four times", then policy, states, arcs and end
 unfoldable pub mayFollow : Reading → ℕ → Bool
@@ -73,18 +81,18 @@ mayFollow r c =
     (cond (eqb c 3) (not (isZero (r .policy)) && isZero (r .states))
     (not (isZero (r .states)))))
 
--- "1 ≤ C ≤ D ≤ 8, V 1 to 255"
-unfoldable pub taskInRange : ℕ → ℕ → ℕ → Bool
-taskInRange c d v = leb 1 c && leb c d && leb d maxWindow && between 1 v maxValue
+-- "1 ≤ C ≤ D ≤" the longest window, "V 1 to" the largest value; for long reads 10 and 65,535
+unfoldable pub taskInRange : Edition → ℕ → ℕ → ℕ → Bool
+taskInRange e c d v = leb 1 c && leb c d && leb d (e .window) && between 1 v (e .value)
 
 -- "S, T below M, L below 2 to the number of tasks"
 unfoldable pub arcInRange : Reading → ℕ → ℕ → ℕ → Bool
 arcInRange r s l t = ltb s (r .states) && ltb l (2 ^ length (r .tasks)) && ltb t (r .states)
 
 -- the operands x, y, z of the command c; "policy (1 to 4)", "M states (1 to 16)"
-unfoldable pub inRange : Reading → ℕ → ℕ → ℕ → ℕ → Bool
-inRange r c x y z =
-    cond (eqb c 1) (taskInRange x y z)
+unfoldable pub inRange : Edition → Reading → ℕ → ℕ → ℕ → ℕ → Bool
+inRange e r c x y z =
+    cond (eqb c 1) (taskInRange e x y z)
     (cond (eqb c 2) (between 1 x 4)
     (cond (eqb c 3) (between 1 x maxStates)
     (cond (eqb c 4) (arcInRange r x y z)
@@ -116,9 +124,9 @@ firstFault ended unknown follows short ranged rises =
     0)))))
 
 -- the fault of the command c with operands x, y, z, where so many bytes are left from it on
-unfoldable pub fault : Reading → ℕ → ℕ → ℕ → ℕ → ℕ → ℕ
-fault r left c x y z =
-    firstFault (r .ended) (unknown c) (mayFollow r c) (ltb left (width c)) (inRange r c x y z) (pairRises r c x y)
+unfoldable pub fault : Edition → Reading → ℕ → ℕ → ℕ → ℕ → ℕ → ℕ
+fault e r left c x y z =
+    firstFault (r .ended) (unknown c) (mayFollow r c) (ltb left (width e c)) (inRange e r c x y z) (pairRises r c x y)
 
 -- what is read once the command c with operands x, y, z is
 unfoldable pub after : Reading → ℕ → ℕ → ℕ → ℕ → Reading
@@ -139,24 +147,32 @@ abbrev pub atEnd : Reading → PlanAnswer
 atEnd r = cond (r .ended) (sound (record { tasks = r .tasks; policy = r .policy; states = r .states; arcs = r .arcs })) (faulty bytesEnd)
 
 -- One command a turn, up to "the plan's first bad command". Each takes a byte at least, so one turn more than there are bytes is enough.
-abbrev pub readCommands : ℕ → List ℕ → Reading → PlanAnswer
-readCommands zero bs r = faulty bytesEnd
-readCommands (suc n) [] r = atEnd r
-readCommands (suc n) (c ∷ bs) r =
+abbrev pub readCommands : Edition → ℕ → List ℕ → Reading → PlanAnswer
+readCommands e zero bs r = faulty bytesEnd
+readCommands e (suc n) [] r = atEnd r
+readCommands e (suc n) (c ∷ bs) r =
     let x = getD bs 0 0 in
     let y = getD bs 1 0 in
-    let z = getD bs 2 0 in
-    let rest = readCommands n (drop (width c) (c ∷ bs)) (after r c x y z) in
-    refusedOr (fault r (length (c ∷ bs)) c x y z) rest
+    let z = lastOperand e c bs in
+    let rest = readCommands e n (drop (width e c) (c ∷ bs)) (after r c x y z) in
+    refusedOr (fault e r (length (c ∷ bs)) c x y z) rest
 
 -- what is read from here on
-unfoldable pub readFrom : List ℕ → Reading → PlanAnswer
-readFrom bs r = readCommands (suc (length bs)) bs r
+unfoldable pub readFrom : Edition → List ℕ → Reading → PlanAnswer
+readFrom e bs r = readCommands e (suc (length bs)) bs r
 
-unfoldable pub readPlan : List ℕ → PlanAnswer
-readPlan bs = readFrom bs nothingRead
+-- the plan of an edition's bytes
+unfoldable pub readPlanIn : Edition → List ℕ → PlanAnswer
+readPlanIn e bs = readFrom e bs nothingRead
 
--- "A plan is sound when it has none of the faults 1 to 4": some bytes are read as it.
-pub record IsSound (P : Plan) : Type 0 where
+-- "plans of the first edition are no longer read directly"
+abbrev pub readPlan : List ℕ → PlanAnswer
+readPlan bs = readPlanIn longReads bs
+
+-- "A plan is sound when it has none of the faults 1 to 4": some bytes of the edition are read as it.
+pub record IsSoundIn (e : Edition) (P : Plan) : Type 0 where
   pub bytes : List ℕ
-  pub read : readPlan bytes ≡ sound P
+  pub read : readPlanIn e bytes ≡ sound P
+
+abbrev pub IsSound : Plan → Type 0
+IsSound P = IsSoundIn longReads P

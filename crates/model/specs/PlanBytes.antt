@@ -4,35 +4,38 @@ use Prim.Native.Nat.{ℕ, _^_, _≤_, _<_}
 use mathlib.Core.List.{List, [], _∷_, _++_}
 use mathlib.Core.Option.{Option, none, some}
 use lib.ListN.{length, getD}
-use Rattle.model.specs.Limits.{planRoom, valueWidth}
+use Rattle.model.specs.Edition.{Edition, longReads, planRoomIn}
 use Rattle.model.specs.Lists.{flatMap, upFrom}
 use Rattle.model.specs.Bytes.{bytes}
-use Rattle.model.specs.Plan.{Task, Arc, Plan, sound, readPlan, IsSound}
+use Rattle.model.specs.Plan.{Task, Arc, Plan, sound, readPlan, readPlanIn, IsSoundIn}
 
 -- ---- the bytes
 
--- "`01` C D V"
-abbrev pub taskBytes : Task → List ℕ
-taskBytes t = 0x01 ∷ t .work ∷ t .window ∷ bytes valueWidth (t .value)
+-- "`01` C D V", V of the edition's bytes
+abbrev pub taskBytes : Edition → Task → List ℕ
+taskBytes e t = 0x01 ∷ t .work ∷ t .window ∷ bytes (e .valueWidth) (t .value)
 
 -- "`04` S L T"
 abbrev pub arcBytes : Arc → List ℕ
 arcBytes a = 0x04 ∷ a .from ∷ a .label ∷ a .to ∷ []
 
 -- "`01` C D V .., one to four times ..; `02` policy ..; `03` M states ..; `04` S L T, any number ..; `05` end"
-unfoldable pub planBytes : Plan → List ℕ
-planBytes P =
-    flatMap taskBytes (P .tasks) ++ 0x02 ∷ P .policy ∷ 0x03 ∷ P .states ∷ (flatMap arcBytes (P .arcs) ++ (0x05 ∷ []))
+unfoldable pub planBytesIn : Edition → Plan → List ℕ
+planBytesIn e P =
+    flatMap (taskBytes e) (P .tasks) ++ 0x02 ∷ P .policy ∷ 0x03 ∷ P .states ∷ (flatMap arcBytes (P .arcs) ++ (0x05 ∷ []))
+
+abbrev pub planBytes : Plan → List ℕ
+planBytes P = planBytesIn longReads P
 
 -- The form of a plan: its bytes are read as it, they are no longer than "the longest plan of the edition", and no other bytes are it.
-pub record WrittenForm (P : Plan) : Type 0 where
-  pub taken : readPlan (planBytes P) ≡ sound P
-  pub fits : length (planBytes P) ≤ planRoom
-  pub only : (bs : List ℕ) → ((i : ℕ) → getD bs i 0 < 256) → readPlan bs ≡ sound P → bs ≡ planBytes P
+pub record WrittenForm (e : Edition) (P : Plan) : Type 0 where
+  pub taken : readPlanIn e (planBytesIn e P) ≡ sound P
+  pub fits : length (planBytesIn e P) ≤ planRoomIn e
+  pub only : (bs : List ℕ) → ((i : ℕ) → getD bs i 0 < 256) → readPlanIn e bs ≡ sound P → bs ≡ planBytesIn e P
 
--- every sound plan has that form
-abbrev pub PlansAreWritten : Type 0
-PlansAreWritten = (P : Plan) → IsSound P → WrittenForm P
+-- every sound plan of the edition has that form
+abbrev pub PlansAreWritten : Edition → Type 0
+PlansAreWritten e = (P : Plan) → IsSoundIn e P → WrittenForm e P
 
 -- ---- an automaton
 

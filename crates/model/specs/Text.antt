@@ -4,6 +4,8 @@ use mathlib.Core.Bool.{cond}
 use mathlib.Core.List.{List, [], _∷_, _++_}
 use mathlib.Core.Option.{Option, none, some}
 use lib.Dec.{ltb}
+use Rattle.model.specs.Lists.{flatMap}
+use Rattle.model.specs.Masks.{maskTable}
 use Rattle.model.specs.Slot.{Done}
 use Rattle.model.specs.Check.{CheckAnswer, refused, share}
 use Rattle.model.specs.Thousandths.{thousandths}
@@ -74,3 +76,7 @@ traceText labels (writes ds) = traceHeader ++ traceLines 0 labels ds
 unfoldable pub planText : Writing Plan → List ℕ
 planText (refuses n) = refusedLine n
 planText (writes P) = planBytes P
+
+-- "a small generator program .. prints it in its order, fewest ones first, one decimal number a line"
+unfoldable pub maskText : List ℕ
+maskText = flatMap numberLine maskTable

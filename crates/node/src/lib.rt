@@ -1,19 +1,23 @@
-// A node of the graph, with the limits and the policies' numbers as its constants: each number stands here alone.
+// A node of the graph, with the limits and the policies' numbers as its constants, and the editions: each number stands here alone.
 ghost use mathlib.Core.Path.{_≡_};
+ghost use Rattle.model.specs.Edition as model;
 ghost use Rattle.node.specs.Start.{startNode};
+ghost use Rattle.node.specs.Edition.{editionOf};
 
 // The cells of the policy's jobs, the pattern of taken slots, and the automaton's state.
 pub struct Node {
     pub cells: [u8; Node::CELLS],
-    pub taken: u8,
+    pub taken: u16,
     pub state: u8,
 }
 
 impl Node {
-    // A plan's tasks, the longest window and its states.
+    // A plan's tasks, the longest window, the largest value and the states.
     pub const MAX_TASKS: usize = 4;
 
-    pub const MAX_WINDOW: usize = 8;
+    pub const MAX_WINDOW: usize = 10;
+
+    pub const MAX_VALUE: u16 = 65535;
 
     pub const MAX_STATES: usize = 16;
 
@@ -29,11 +33,11 @@ impl Node {
     pub const MAX_STEPS: usize = 1024;
 
     // A certificate's fraction and potentials.
-    pub const MAX_P: u32 = 261120;
+    pub const MAX_P: u32 = 67107840;
 
-    pub const MAX_Q: u32 = 1044480;
+    pub const MAX_Q: u32 = 268431360;
 
-    pub const MAX_POTENTIAL: i64 = 1099511627776;
+    pub const MAX_POTENTIAL: i64 = 72057594037927936;
 
     // The labels of a trace.
     pub const MAX_LABELS: usize = 4096;
@@ -43,9 +47,9 @@ impl Node {
 
     pub const TRACE_ROOM: usize = 12288;
 
-    pub const CERTIFICATE_ROOM: usize = 15375;
+    pub const CERTIFICATE_ROOM: usize = 19471;
 
-    pub const PLAN_ROOM: usize = 1045;
+    pub const PLAN_ROOM: usize = 1049;
 
     // The policies.
     pub const EDF: u8 = 1;
@@ -65,6 +69,31 @@ impl Node {
             cells,
             taken: 0,
             state: 0,
+        }
+    }
+}
+
+// An edition of plan and certificate bytes: the longest window, the largest value, the bytes of a value and those of a mask.
+pub struct Edition {
+    pub window: u8,
+    pub value: u16,
+    pub value_width: usize,
+    pub mask_width: usize,
+}
+
+impl Edition {
+    // The bytes of a mask in the long-read edition.
+    pub const MASK_WIDTH: usize = 2;
+
+    // The long-read edition.
+    pub fn long_reads() -> Edition
+        ensures { λ r. ⌜ editionOf r ≡ model.longReads ⌝ }
+    {
+        Edition {
+            window: Node::MAX_WINDOW as u8,
+            value: Node::MAX_VALUE,
+            value_width: 2,
+            mask_width: Edition::MASK_WIDTH,
         }
     }
 }

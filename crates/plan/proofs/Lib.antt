@@ -1,3 +1,4 @@
 pub mod Turn
 pub mod View
 pub mod Arcs
+pub mod Widths

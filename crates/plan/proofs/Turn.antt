@@ -8,6 +8,7 @@ use native.Mathlib.Nat.{lt-of-lt-of-le}
 use native.Mathlib.Omega.{arith}
 use borrow.Author.Tests.{leb-true}
 use lib.ListN.{length, getD, drop, replicate, length-replicate, drop-of-length-le}
+use Rattle.model.specs.Edition.{Edition}
 use Rattle.model.specs.Limits.{maxTasks}
 use Rattle.model.specs.Plan as model
 use Rattle.model.proofs.Plan.{Passes, fault-none, readFrom-at, readFrom-nil, task-follows, states-ranged, arc-ranged}
@@ -23,11 +24,11 @@ use Rattle.plan.specs.View.{faultNumber, checkNumber, emptyTask, reading
 use Rattle.plan.proofs.View.{task-count, label-low, least-rises}
 
 -- the bytes before a place have been read
-pub record Reached (s next : List ℕ) (r : Reading) (at : ℕ) : Type 0 where
+pub record Reached (e : Edition) (s next : List ℕ) (r : Reading) (at : ℕ) : Type 0 where
   pub inside : at ≤ length s
   pub within : Within r
   pub holds : Holds next (r .least)
-  pub rest : model.readPlan s ≡ model.readFrom (drop at s) (readingOf r (arcsIn next))
+  pub rest : model.readPlanIn e s ≡ model.readFrom e (drop at s) (readingOf r (arcsIn next))
 
 -- a table of zeros has no arc
 empty-below : (n k : ℕ) → arcsBelow (replicate n 0) k ≡ []
@@ -55,58 +56,61 @@ nothing-within = record {
 }
 
 -- before the first command
-pub reached-start : (s next : List ℕ) (r : Reading) → next ≡ emptyTable → r ≡ nothingRead → Reached s next r 0
-unfolding model.readPlan
-reached-start s next r t e = rw (t, e) (record {
+pub reached-start : (e : Edition) (s next : List ℕ) (r : Reading) → next ≡ emptyTable → r ≡ nothingRead → Reached e s next r 0
+unfolding model.readPlanIn
+reached-start e s next r t k = rw (t, k) (record {
   inside = omega arith;
   within = nothing-within;
   holds = empty-holds;
-  rest = ap (λ (arcs : List model.Arc). model.readFrom s (readingOf nothingRead arcs)) (sym empty-arcs);
+  rest = ap (λ (arcs : List model.Arc). model.readFrom e s (readingOf nothingRead arcs)) (sym empty-arcs);
 })
 
 -- what the reader says of its answer
-abbrev pub Answers : List ℕ → PlanRead → Type 0
-Answers s a = Sized (a .plan) × (answerOf a ≡ model.readPlan s) × FaultAlone a
+abbrev pub Answers : Edition → List ℕ → PlanRead → Type 0
+Answers e s a = Sized (a .plan) × (answerOf a ≡ model.readPlanIn e s) × FaultAlone a
 
 sized : (o : Outcome) (next : List ℕ) (r : Reading) → Within r → Holds next (r .least) → Sized (answered o r next .plan)
 sized o next r w h = record { fits = w .fits; room = w .room; spare = w .spare; table = h .size }
 
 -- a fault is the answer
-answers-fault : (s : List ℕ) (a : PlanRead) (f : Fault) → a ≡ refusal f → model.readPlan s ≡ model.faulty (faultNumber f) → Answers s a
-answers-fault s a f e k =
-    rw e (sized (Faulty f) emptyTable nothingRead nothing-within empty-holds, sym k, record { empty = λ g q. ap refusal (same g q) })
+answers-fault : (e : Edition) (s : List ℕ) (a : PlanRead) (f : Fault) → a ≡ refusal f → model.readPlanIn e s ≡ model.faulty (faultNumber f) → Answers e s a
+answers-fault e s a f is k =
+    rw is (sized (Faulty f) emptyTable nothingRead nothing-within empty-holds, sym k, record { empty = λ g q. ap refusal (same g q) })
   where
     same : (g : Fault) → _≡_ {A = Outcome} (Faulty f) (Faulty g) → f ≡ g
     same g q = cc
 
 -- past the last command
-module _ (s next : List ℕ) (r : Reading) (at : ℕ) (h : Reached s next r at) (e : length s ≤ at) where
-  at-end : model.readPlan s ≡ model.atEnd (readingOf r (arcsIn next))
+module _ (e : Edition) (s next : List ℕ) (r : Reading) (at : ℕ) (h : Reached e s next r at) (end : length s ≤ at) where
+  at-end : model.readPlanIn e s ≡ model.atEnd (readingOf r (arcsIn next))
   at-end =
-      h .rest ∙ ap (λ (l : List ℕ). model.readFrom l (readingOf r (arcsIn next))) (drop-of-length-le s e) ∙ readFrom-nil (readingOf r (arcsIn next))
+      h .rest ∙ ap (λ (l : List ℕ). model.readFrom e l (readingOf r (arcsIn next))) (drop-of-length-le s end) ∙ readFrom-nil e (readingOf r (arcsIn next))
 
-  pub answers-plan : (a : PlanRead) → a ≡ answered Sound r next → r .ended ≡ true → Answers s a
+  pub answers-plan : (a : PlanRead) → a ≡ answered Sound r next → r .ended ≡ true → Answers e s a
   answers-plan a k d =
       rw k (sized Sound next r (h .within) (h .holds), sym (at-end ∙ simp d), record { empty = λ f q. absurd (never f q) })
     where
       never : (f : Fault) → _≡_ {A = Outcome} Sound (Faulty f) → ⊥
       never f q = let z : _≡_ {A = ℕ} 0 1 = cc in omega arith
 
-  pub answers-short : (a : PlanRead) → a ≡ refusal BytesEnd → r .ended ≡ false → Answers s a
-  answers-short a k d = answers-fault s a BytesEnd k (at-end ∙ simp d)
+  pub answers-short : (a : PlanRead) → a ≡ refusal BytesEnd → r .ended ≡ false → Answers e s a
+  answers-short a k d = answers-fault e s a BytesEnd k (at-end ∙ simp d)
 
 -- where a command is due
-module _ (s next : List ℕ) (r : Reading) (at : ℕ) (h : Reached s next r at) (more : at < length s) where
+module _ (e : Edition) (s next : List ℕ) (r : Reading) (at : ℕ) (h : Reached e s next r at) (more : at < length s) where
+  abbrev pub lastHere : ℕ
+  lastHere = model.lastOperand e (getD s at 0) (drop (suc at) s)
+
   abbrev pub faultHere : ℕ
-  faultHere = model.fault (readingOf r (arcsIn next)) (length s - at) (getD s at 0) (getD s (at + 1) 0) (getD s (at + 2) 0) (getD s (at + 3) 0)
+  faultHere = model.fault e (readingOf r (arcsIn next)) (length s - at) (getD s at 0) (getD s (at + 1) 0) (getD s (at + 2) 0) lastHere
 
   abbrev rest : model.PlanAnswer
   rest =
-      model.readFrom (drop (at + model.width (getD s at 0)) s)
-      (model.after (readingOf r (arcsIn next)) (getD s at 0) (getD s (at + 1) 0) (getD s (at + 2) 0) (getD s (at + 3) 0))
+      model.readFrom e (drop (at + model.width e (getD s at 0)) s)
+      (model.after (readingOf r (arcsIn next)) (getD s at 0) (getD s (at + 1) 0) (getD s (at + 2) 0) lastHere)
 
-  step : model.readPlan s ≡ model.refusedOr faultHere rest
-  step = h .rest ∙ readFrom-at s at (readingOf r (arcsIn next)) more
+  step : model.readPlanIn e s ≡ model.refusedOr faultHere rest
+  step = h .rest ∙ readFrom-at e s at (readingOf r (arcsIn next)) more
 
   refusal-first : (f : Fault) (a : model.PlanAnswer) → model.refusedOr (faultNumber f) a ≡ model.faulty (faultNumber f)
   refusal-first BytesEnd a = refl
@@ -115,30 +119,30 @@ module _ (s next : List ℕ) (r : Reading) (at : ℕ) (h : Reached s next r at) 
   refusal-first OutOfRange a = refl
 
   -- a fault is the answer
-  pub answers-found : (a : PlanRead) (o : Outcome) (f : Fault) → a ≡ refusal f → o ≡ Faulty f → checkNumber o ≡ faultHere → Answers s a
-  answers-found a o f r′ k e =
-      answers-fault s a f r′ (step ∙ ap (λ (n : ℕ). model.refusedOr n rest) (sym e ∙ ap checkNumber k) ∙ refusal-first f rest)
+  pub answers-found : (a : PlanRead) (o : Outcome) (f : Fault) → a ≡ refusal f → o ≡ Faulty f → checkNumber o ≡ faultHere → Answers e s a
+  answers-found a o f r′ k is =
+      answers-fault e s a f r′ (step ∙ ap (λ (n : ℕ). model.refusedOr n rest) (sym is ∙ ap checkNumber k) ∙ refusal-first f rest)
 
-  passes : 0 ≡ faultHere → Passes (readingOf r (arcsIn next)) (getD s at 0) (getD s (at + 1) 0) (getD s (at + 2) 0) (getD s (at + 3) 0)
-  passes e = fault-none (readingOf r (arcsIn next)) (length s - at) _ _ _ _ (sym e) .0
+  passes : 0 ≡ faultHere → Passes e (readingOf r (arcsIn next)) (getD s at 0) (getD s (at + 1) 0) (getD s (at + 2) 0) lastHere
+  passes is = fault-none e (readingOf r (arcsIn next)) (length s - at) _ _ _ _ (sym is) .0
 
   -- a command without a fault may be read
   pub readable : 0 ≡ faultHere → Readable r (getD s at 0) (getD s (at + 1) 0)
-  readable e =
-      let p = passes e in
+  readable is =
+      let p = passes is in
       record {
         within = h .within;
         going = p .going;
         known = p .known;
         room = λ k. subst (λ (n : ℕ). n < maxTasks) (task-count r (h .within)) (task-follows _ _ k (p .follows));
-        states = λ k. states-ranged _ _ _ _ _ k (p .ranged);
+        states = λ k. states-ranged e _ _ _ _ _ k (p .ranged);
       }
 
-  pub readable-arc : 0 ≡ faultHere → getD s at 0 ≡ 4 → ReadableArc r next (getD s (at + 1) 0) (getD s (at + 2) 0) (getD s (at + 3) 0)
-  readable-arc e k =
-      let p = passes e in
-      let t = arc-ranged _ _ _ _ _ k (p .ranged) in
-      let low = label-low r (arcsIn next) _ _ _ _ (h .within) (p .ranged) k in
+  pub readable-arc : 0 ≡ faultHere → getD s at 0 ≡ 4 → ReadableArc r next (getD s (at + 1) 0) (getD s (at + 2) 0) lastHere
+  readable-arc is k =
+      let p = passes is in
+      let t = arc-ranged e _ _ _ _ _ k (p .ranged) in
+      let low = label-low e r (arcsIn next) _ _ _ _ (h .within) (p .ranged) k in
       let rises : model.rising (arcsIn next) (getD s (at + 1) 0) (getD s (at + 2) 0) ≡ true = simp k at (p .rises) in
       record {
         within = h .within;
@@ -152,10 +156,10 @@ module _ (s next : List ℕ) (r : Reading) (at : ℕ) (h : Reached s next r at) 
 
   -- and then the bytes before the next one have been
   pub reached-next : 0 ≡ faultHere → (n : Reading) (after : List ℕ) →
-      Reads r n next after (getD s at 0) (getD s (at + 1) 0) (getD s (at + 2) 0) (getD s (at + 3) 0) → Reached s after n (at + model.width (getD s at 0))
-  reached-next e n after d = record {
-    inside = omega (arith, fault-none (readingOf r (arcsIn next)) (length s - at) _ _ _ _ (sym e) .1);
+      Reads r n next after (getD s at 0) (getD s (at + 1) 0) (getD s (at + 2) 0) lastHere → Reached e s after n (at + model.width e (getD s at 0))
+  reached-next is n after d = record {
+    inside = omega (arith, fault-none e (readingOf r (arcsIn next)) (length s - at) _ _ _ _ (sym is) .1);
     within = d .within;
     holds = d .holds;
-    rest = step ∙ ap (λ (k : ℕ). model.refusedOr k rest) (sym e) ∙ ap (model.readFrom (drop (at + model.width (getD s at 0)) s)) (sym (d .reading));
+    rest = step ∙ ap (λ (k : ℕ). model.refusedOr k rest) (sym is) ∙ ap (model.readFrom e (drop (at + model.width e (getD s at 0)) s)) (sym (d .reading));
   }

@@ -12,6 +12,7 @@ use lib.Dec.{leb, ltb, eqb, leb·zero}
 use lib.ListN.{length, getD, take, set, length-map, length-set, List·getD-map}
 use lib.Seq.{length-take-le, getD-take, getD-set-same, getD-set-other}
 use lib.Pow.{pow-mono}
+use Rattle.model.specs.Edition.{Edition}
 use Rattle.model.specs.Limits.{maxStates}
 use Rattle.model.specs.Plan as model
 use Rattle.model.specs.Plan.{Arc, nextIn, rising, pairBelow, pairRises, unknown, width, mayFollow, arcInRange, inRange, firstFault, fault}
@@ -82,30 +83,30 @@ least-rises next (suc m) h s l low = ap (λ (as′ : List Arc). rising as′ s l
     last (suc t) e = rising-last (arcsBelow next m) (arcOf m t) s l ∙ pair-order m t s l low
 
 -- an arc in range has a label of the table
-pub label-low : (r : Reading) (arcs : List Arc) (c x y z : ℕ) → Within r → inRange (readingOf r arcs) c x y z ≡ true → c ≡ 4 → y < labelCount
-label-low r arcs c x y z w h e =
-    lt-of-lt-of-le (subst (λ (n : ℕ). y < 2 ^ n) (task-count r w) (arc-ranged _ _ _ _ _ e h .1)) (pow-mono (w .fits))
+pub label-low : (e : Edition) (r : Reading) (arcs : List Arc) (c x y z : ℕ) → Within r → inRange e (readingOf r arcs) c x y z ≡ true → c ≡ 4 → y < labelCount
+label-low e r arcs c x y z w h is =
+    lt-of-lt-of-le (subst (λ (n : ℕ). y < 2 ^ n) (task-count r w) (arc-ranged e _ _ _ _ _ is h .1)) (pow-mono (w .fits))
 
 -- where the operands are in range, the least pair tells whether an arc's rises
-from-least : (r : Reading) (next : List ℕ) (c x y z : ℕ) → Within r → Holds next (r .least) →
-    inRange (readingOf r (arcsIn next)) c x y z ≡ true → fromLeast (r .least) c x y ≡ pairRises (readingOf r (arcsIn next)) c x y
-from-least r next c x y z w h g = go (eqb c 4) refl
+from-least : (e : Edition) (r : Reading) (next : List ℕ) (c x y z : ℕ) → Within r → Holds next (r .least) →
+    inRange e (readingOf r (arcsIn next)) c x y z ≡ true → fromLeast (r .least) c x y ≡ pairRises (readingOf r (arcsIn next)) c x y
+from-least e r next c x y z w h g = go (eqb c 4) refl
   where
     go : (b : Bool) → eqb c 4 ≡ b → cond b (leb (r .least) (x * labelCount + y)) true ≡ cond b (rising (arcsIn next) x y) true
-    go true e = sym (least-rises next (r .least) h x y (label-low r (arcsIn next) c x y z w g (eqb-true c 4 e)))
-    go false e = refl
+    go true is = sym (least-rises next (r .least) h x y (label-low e r (arcsIn next) c x y z w g (eqb-true c 4 is)))
+    go false is = refl
 
 -- the fault by the least pair is the definition's
-pub fault-from-least : (r : Reading) (next : List ℕ) (left c x y z : ℕ) → Within r → Holds next (r .least) →
-    faultFromLeast r left c x y z ≡ fault (readingOf r (arcsIn next)) left c x y z
+pub fault-from-least : (e : Edition) (r : Reading) (next : List ℕ) (left c x y z : ℕ) → Within r → Holds next (r .least) →
+    faultFromLeast e r left c x y z ≡ fault e (readingOf r (arcsIn next)) left c x y z
 unfolding fault mayFollow inRange arcInRange
-fault-from-least r next left c x y z w h = go (inRange (readingOf r (arcsIn next)) c x y z) refl
+fault-from-least e r next left c x y z w h = go (inRange e (readingOf r (arcsIn next)) c x y z) refl
   where
-    go : (g : Bool) → inRange (readingOf r (arcsIn next)) c x y z ≡ g →
-        firstFault (r .ended) (unknown c) (mayFollow (readingOf r []) c) (ltb left (width c)) g (fromLeast (r .least) c x y)
-        ≡ firstFault (r .ended) (unknown c) (mayFollow (readingOf r (arcsIn next)) c) (ltb left (width c)) g (pairRises (readingOf r (arcsIn next)) c x y)
-    go true g = ap (firstFault (r .ended) (unknown c) (mayFollow (readingOf r []) c) (ltb left (width c)) true) (from-least r next c x y z w h g)
-    go false g = ranged-first (r .ended) (unknown c) (mayFollow (readingOf r []) c) (ltb left (width c)) _ _
+    go : (g : Bool) → inRange e (readingOf r (arcsIn next)) c x y z ≡ g →
+        firstFault (r .ended) (unknown c) (mayFollow (readingOf r []) c) (ltb left (width e c)) g (fromLeast (r .least) c x y)
+        ≡ firstFault (r .ended) (unknown c) (mayFollow (readingOf r (arcsIn next)) c) (ltb left (width e c)) g (pairRises (readingOf r (arcsIn next)) c x y)
+    go true g = ap (firstFault (r .ended) (unknown c) (mayFollow (readingOf r []) c) (ltb left (width e c)) true) (from-least e r next c x y z w h g)
+    go false g = ranged-first (r .ended) (unknown c) (mayFollow (readingOf r []) c) (ltb left (width e c)) _ _
 
 -- the table with one more arc, whose pair rises
 module _ (next : List ℕ) (least k t : ℕ) (h : Holds next least) (rises : least ≤ k) (fits : k < pairCount) where

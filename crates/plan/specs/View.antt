@@ -1,14 +1,17 @@
 -- What the reader's structs and enums stand for.
 use mathlib.Core.Path.{_≡_}
+use mathlib.Core.Logic.{_⊎_}
 use mathlib.Core.Bool.{Bool, true, false, cond}
 use mathlib.Core.List.{List, [], _∷_, _++_, map}
 use mathlib.Core.Option.{Option, none, some}
 use Prim.Native.Nat.{ℕ, zero, suc, _+_, _*_, _/_, _%_, _^_, _<_, _≤_}
 use lib.Dec.{leb, ltb, eqb}
 use lib.ListN.{length, getD, take, replicate}
+use Rattle.model.specs.Edition.{Edition}
 use Rattle.model.specs.Limits.{maxTasks, maxStates}
 use Rattle.model.specs.Refusals.{bytesEnd, unknownCommand, outOfPlace, outOfRange}
 use Rattle.model.specs.Plan as model
+use Rattle.node.specs.declared.Edition as node
 use Rattle.plan.specs.declared.Task.{Task}
 use Rattle.plan.specs.declared.Plan.{Plan}
 use Rattle.plan.specs.declared.Reading.{Reading}
@@ -17,6 +20,10 @@ use Rattle.plan.specs.declared.Fault.{Fault}
 use Rattle.plan.specs.declared.Fault.the-variants.{BytesEnd, UnknownCommand, OutOfPlace, OutOfRange}
 use Rattle.plan.specs.declared.Outcome.{Outcome}
 use Rattle.plan.specs.declared.Outcome.the-variants.{Sound, Faulty}
+
+-- an edition that the reader knows: V is one byte or two
+abbrev pub Legible : node.Edition → Type 0
+Legible e = (e .«value_width» ≡ 1) ⊎ (e .«value_width» ≡ 2)
 
 -- the number of each fault
 abbrev pub faultNumber : Fault → ℕ
@@ -94,10 +101,10 @@ abbrev pub fromLeast : ℕ → ℕ → ℕ → ℕ → Bool
 fromLeast least c s l = cond (eqb c 4) (leb least (s * labelCount + l)) true
 
 -- the fault of a command, by the least pair that rises instead of the arcs
-abbrev pub faultFromLeast : Reading → ℕ → ℕ → ℕ → ℕ → ℕ → ℕ
-faultFromLeast r left c x y z =
-    model.firstFault (r .ended) (model.unknown c) (model.mayFollow (readingOf r []) c) (ltb left (model.width c))
-    (model.inRange (readingOf r []) c x y z) (fromLeast (r .least) c x y)
+abbrev pub faultFromLeast : Edition → Reading → ℕ → ℕ → ℕ → ℕ → ℕ → ℕ
+faultFromLeast e r left c x y z =
+    model.firstFault (r .ended) (model.unknown c) (model.mayFollow (readingOf r []) c) (ltb left (model.width e c))
+    (model.inRange e (readingOf r []) c x y z) (fromLeast (r .least) c x y)
 
 -- the answer of an outcome, where a plan without a fault is this one
 abbrev pub answerWith : Outcome → model.Plan → model.PlanAnswer

@@ -1,16 +1,20 @@
 // The plan reader: plan bytes in, the plan as a struct by value out, or the fault.
+use node::Edition;
 use node::Node;
 ghost use mathlib.Core.Path.{_≡_};
 ghost use Prim.Native.Nat.{_+_, _*_, _^_, _<_, _≤_};
 ghost use mathlib.Core.List.{[]};
-ghost use lib.ListN.{getD};
-ghost use Rattle.model.specs.Plan.{nextIn, width, mayFollow, between, taskInRange, arcInRange, inRange, firstFault, readPlan};
+ghost use lib.ListN.{length, getD, drop};
+ghost use mathlib.Core.List.{map};
+ghost use mathlib.Core.Logic.{_⊎_};
+ghost use Rattle.model.specs.Bytes.{number};
+ghost use Rattle.model.specs.Lists.{upFrom};
+ghost use Rattle.model.specs.Plan.{nextIn, width, lastOperand, mayFollow, between, taskInRange, arcInRange, inRange, firstFault, readPlan, readPlanIn};
+ghost use Rattle.node.specs.Edition.{editionOf};
 ghost use Rattle.model.specs.Limits.{maxTasks, maxStates};
-ghost use Rattle.plan.specs.View.{faultNumber, checkNumber, answerOf, readingOf, nothingRead, emptyTable, arcsIn, nextOf, labelCount, fromLeast, faultFromLeast, answered, refusal, FaultAlone, Sized, Within, Holds, Readable, ReadableArc, Reads, ReadsAside};
+ghost use Rattle.plan.specs.View.{faultNumber, checkNumber, answerOf, readingOf, nothingRead, emptyTable, arcsIn, nextOf, labelCount, fromLeast, faultFromLeast, answered, refusal, FaultAlone, Sized, Legible, Within, Holds, Readable, ReadableArc, Reads, ReadsAside};
 
 const MAX_TASKS: usize = Node::MAX_TASKS;
-
-const MAX_WINDOW: u8 = Node::MAX_WINDOW as u8;
 
 const MAX_STATES: u8 = Node::MAX_STATES as u8;
 
@@ -22,7 +26,7 @@ pub const PAIRS: usize = Node::MAX_STATES * LABELS;
 pub struct Task {
     pub work: u8,
     pub window: u8,
-    pub value: u8,
+    pub value: u16,
 }
 
 // A sound plan: the first `count` tasks, the policy, the number of states, and for the state S and the
@@ -81,11 +85,13 @@ struct Reading {
 }
 
 // How many bytes a command takes.
-fn width_of(c: u8) -> usize
-    ensures { λ r. ⌜ r ≡ width c ⌝ }
+fn width_of(edition: Edition, c: u8) -> usize
+    requires { ⌜ Legible edition ⌝ }
+    ensures { λ r. ⌜ r ≡ width (editionOf edition) c ⌝ }
 {
     match c {
-        1 | 4 => 4,
+        1 => 3 + edition.value_width,
+        4 => 4,
         5 => 1,
         _ => 2,
     }
@@ -96,6 +102,31 @@ fn byte_at(s: &[u8], at: usize) -> u8
     ensures { λ r. ⌜ r ≡ getD (now (s .entry)) at 0 ⌝ }
 {
     if at < s.len() { s[at] } else { 0 }
+}
+
+// The number of one or two bytes from a place on; those past the end are 0.
+fn number_at(s: &[u8], at: usize, width: usize) -> u16
+    requires { ⌜ (at + 1 < 2 ^ 64) × ((width ≡ 1) ⊎ (width ≡ 2)) ⌝ }
+    ensures { λ r. ⌜ r ≡ number (map (λ i. getD (now (s .entry)) i 0) (upFrom at width)) ⌝ }
+{
+    let first = byte_at(s, at) as u16;
+    if width == 1 {
+        return first;
+    }
+    let second = byte_at(s, at + 1) as u16;
+    first * 256 + second
+}
+
+// The last operand, V or T, of the command c whose operands stand at a place; other commands have none.
+fn last_operand(edition: Edition, s: &[u8], at: usize, c: u8) -> u16
+    requires { ⌜ Legible edition × (at ≤ length (now s)) ⌝ }
+    ensures { λ r. ⌜ r ≡ lastOperand (editionOf edition) c (drop at (now (s .entry))) ⌝ }
+{
+    match c {
+        1 => number_at(s, at + 2, edition.value_width),
+        4 => number_at(s, at + 2, 1),
+        _ => 0,
+    }
 }
 
 // Whether a command may follow those read.
@@ -119,8 +150,8 @@ fn may_follow(r: Reading, c: u8) -> bool
 }
 
 // Whether a task's work, window and value are in range.
-fn task_in_range(c: u8, d: u8, v: u8) -> bool
-    ensures { λ b. ⌜ b ≡ taskInRange c d v ⌝ }
+fn task_in_range(edition: Edition, c: u8, d: u8, v: u16) -> bool
+    ensures { λ b. ⌜ b ≡ taskInRange (editionOf edition) c d v ⌝ }
 {
     if c < 1 {
         return false;
@@ -128,10 +159,13 @@ fn task_in_range(c: u8, d: u8, v: u8) -> bool
     if d < c {
         return false;
     }
-    if MAX_WINDOW < d {
+    if edition.window < d {
         return false;
     }
-    1 <= v
+    if v < 1 {
+        return false;
+    }
+    v <= edition.value
 }
 
 // How many labels a number of tasks has.
@@ -143,7 +177,7 @@ pub fn labels(count: usize) -> usize
 }
 
 // Whether an arc's states and label are in range.
-fn arc_in_range(r: Reading, s: u8, l: u8, t: u8) -> bool
+fn arc_in_range(r: Reading, s: u8, l: u8, t: u16) -> bool
     requires { ⌜ Within r ⌝ }
     ensures { λ b. ⌜ b ≡ arcInRange (readingOf r []) s l t ⌝ }
 {
@@ -154,7 +188,7 @@ fn arc_in_range(r: Reading, s: u8, l: u8, t: u8) -> bool
     if labels(r.count) <= l as usize {
         return false;
     }
-    t < states
+    t < states as u16
 }
 
 // Whether a number is from 1 to a limit.
@@ -168,12 +202,12 @@ fn up_to(n: u8, limit: u8) -> bool
 }
 
 // Whether a command's operands are in range.
-fn in_range(r: Reading, c: u8, x: u8, y: u8, z: u8) -> bool
+fn in_range(edition: Edition, r: Reading, c: u8, x: u8, y: u8, z: u16) -> bool
     requires { ⌜ Within r ⌝ }
-    ensures { λ b. ⌜ b ≡ inRange (readingOf r []) c x y z ⌝ }
+    ensures { λ b. ⌜ b ≡ inRange (editionOf edition) (readingOf r []) c x y z ⌝ }
 {
     match c {
-        1 => task_in_range(x, y, z),
+        1 => task_in_range(edition, x, y, z),
         2 => up_to(x, Node::SP),
         3 => up_to(x, MAX_STATES),
         4 => arc_in_range(r, x, y, z),
@@ -240,21 +274,21 @@ fn first_fault(
 }
 
 // The fault of a command with `left` bytes from it on.
-fn fault_of(r: Reading, left: usize, c: u8, x: u8, y: u8, z: u8) -> Outcome
-    requires { ⌜ Within r ⌝ }
-    ensures { λ o. ⌜ checkNumber o ≡ faultFromLeast r left c x y z ⌝ }
+fn fault_of(edition: Edition, r: Reading, left: usize, c: u8, x: u8, y: u8, z: u16) -> Outcome
+    requires { ⌜ Legible edition × Within r ⌝ }
+    ensures { λ o. ⌜ checkNumber o ≡ faultFromLeast (editionOf edition) r left c x y z ⌝ }
 {
     let ended = r.ended;
     let unknown = !up_to(c, 5);
     let follows = may_follow(r, c);
-    let short = left < width_of(c);
-    let ranged = in_range(r, c, x, y, z);
+    let short = left < width_of(edition, c);
+    let ranged = in_range(edition, r, c, x, y, z);
     let rises = pair_rises(r, c, x, y);
     first_fault(ended, unknown, follows, short, ranged, rises)
 }
 
 // One more task.
-fn with_task(r: Reading, c: u8, d: u8, v: u8) -> Reading
+fn with_task(r: Reading, c: u8, d: u8, v: u16) -> Reading
     requires { ⌜ Readable r 1 c ⌝ }
     ensures { λ n. ⌜ ReadsAside r n 1 c d v ⌝ }
 {
@@ -270,7 +304,7 @@ fn with_task(r: Reading, c: u8, d: u8, v: u8) -> Reading
 }
 
 // What is read once a command that is no arc is.
-fn with_command(r: Reading, c: u8, x: u8, y: u8, z: u8) -> Reading
+fn with_command(r: Reading, c: u8, x: u8, y: u8, z: u16) -> Reading
     requires { ⌜ Readable r c x × (c ≡ 4 → ⊥) ⌝ }
     ensures { λ n. ⌜ ReadsAside r n c x y z ⌝ }
 {
@@ -303,12 +337,12 @@ fn with_arc(r: Reading, next: &mut [u8; PAIRS], s: u8, l: u8, t: u8) -> Reading
 }
 
 // What is read once a command without a fault is.
-fn with_next(r: Reading, next: &mut [u8; PAIRS], c: u8, x: u8, y: u8, z: u8) -> Reading
+fn with_next(r: Reading, next: &mut [u8; PAIRS], c: u8, x: u8, y: u8, z: u16) -> Reading
     requires { ⌜ Readable r c x × Holds (now next) (r .least) × (c ≡ 4 → ReadableArc r (now next) x y z) ⌝ }
     ensures { λ n. ⌜ Reads r n (now (next .entry)) (now (next .exit)) c x y z ⌝ }
 {
     if c == 4 {
-        return with_arc(r, next, x, y, z);
+        return with_arc(r, next, x, y, z as u8);
     }
     with_command(r, c, x, y, z)
 }
@@ -361,9 +395,10 @@ fn refused(fault: Fault) -> PlanRead
     answer(Outcome::Faulty(fault), nothing_read(), empty_table())
 }
 
-// The plan that the bytes are, or their first fault.
-pub fn read(s: &[u8]) -> PlanRead
-    ensures { λ a. ⌜ Sized (a .plan) × (answerOf a ≡ readPlan (now (s .entry))) × FaultAlone a ⌝ }
+// The plan that the bytes of an edition are, or their first fault.
+pub fn read_in(edition: Edition, s: &[u8]) -> PlanRead
+    requires { ⌜ Legible edition ⌝ }
+    ensures { λ a. ⌜ Sized (a .plan) × (answerOf a ≡ readPlanIn (editionOf edition) (now (s .entry))) × FaultAlone a ⌝ }
 {
     let mut next = empty_table();
     let mut r = nothing_read();
@@ -372,16 +407,23 @@ pub fn read(s: &[u8]) -> PlanRead
         let c = s[at];
         let x = byte_at(s, at + 1);
         let y = byte_at(s, at + 2);
-        let z = byte_at(s, at + 3);
-        let outcome = fault_of(r, s.len() - at, c, x, y, z);
+        let z = last_operand(edition, s, at + 1, c);
+        let outcome = fault_of(edition, r, s.len() - at, c, x, y, z);
         if let Outcome::Faulty(fault) = outcome {
             return refused(fault);
         }
         r = with_next(r, &mut next, c, x, y, z);
-        at += width_of(c);
+        at += width_of(edition, c);
     }
     if r.ended {
         return answer(Outcome::Sound, r, next);
     }
     refused(Fault::BytesEnd)
+}
+
+// The plan that the bytes of the long-read edition are, or their first fault.
+pub fn read(s: &[u8]) -> PlanRead
+    ensures { λ a. ⌜ Sized (a .plan) × (answerOf a ≡ readPlan (now (s .entry))) × FaultAlone a ⌝ }
+{
+    read_in(Edition::long_reads(), s)
 }

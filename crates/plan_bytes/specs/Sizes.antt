@@ -1,10 +1,6 @@
 -- The bytes of a plan's commands.
-use Prim.Native.Nat.{ℕ, _+_}
-use Rattle.model.specs.Limits.{valueWidth}
+use Prim.Native.Nat.{ℕ}
 
--- a task's and an arc's
-abbrev pub taskSize : ℕ
-taskSize = 3 + valueWidth
-
+-- an arc's
 abbrev pub arcSize : ℕ
 arcSize = 4

@@ -1,4 +1,5 @@
 // Plans written into lent bytes.
+use node::Edition;
 use node::Node;
 use plan::Plan;
 use plan::Task;
@@ -6,13 +7,15 @@ ghost use mathlib.Core.Path.{_≡_};
 ghost use Prim.Native.Nat.{_+_, _*_, _≤_, _<_};
 ghost use lib.ListN.{length};
 ghost use Rattle.model.specs.Bytes.{overwrite, Put};
-ghost use Rattle.model.specs.Limits.{maxTasks, planRoom};
+ghost use Rattle.model.specs.Limits.{maxTasks};
+ghost use Rattle.model.specs.Edition.{taskWidth, planRoomIn, planRoom};
 ghost use Rattle.model.specs.Lists.{flatMap};
-ghost use Rattle.model.specs.PlanBytes.{taskBytes, arcBytes, planBytes};
-ghost use Rattle.plan.specs.View.{taskView, tasksOf, pairCount, arcAt, arcsIn, planOf, Sized};
-ghost use Rattle.plan_bytes.specs.Sizes.{taskSize, arcSize};
+ghost use Rattle.model.specs.PlanBytes.{taskBytes, arcBytes, planBytesIn, planBytes};
+ghost use Rattle.node.specs.Edition.{editionOf};
+ghost use Rattle.plan.specs.View.{taskView, tasksOf, pairCount, arcAt, arcsIn, planOf, Legible, Sized};
+ghost use Rattle.plan_bytes.specs.Sizes.{arcSize};
 
-// The most bytes of a plan.
+// The most bytes of a plan of the long-read edition.
 pub const PLAN_ROOM: usize = Node::PLAN_ROOM;
 
 // Writes four bytes, and gives the place after them.
@@ -24,23 +27,35 @@ fn write_four(out: &mut [u8], at: usize, bytes: [u8; 4]) -> usize
     at + 4
 }
 
-// Writes a task; its value is written here alone.
-fn write_task(out: &mut [u8], at: usize, t: Task) -> usize
-    requires { ⌜ at + taskSize ≤ length (now out) ⌝ }
-    ensures { λ end. ⌜ Put (now (out .entry)) (now (out .exit)) at (taskBytes (taskView t)) end ⌝ }
+// Writes a task; its value, of one byte or two, is written here alone.
+fn write_task(out: &mut [u8], at: usize, t: Task, edition: Edition) -> usize
+    requires { ⌜ Legible edition × (at + taskWidth (editionOf edition) ≤ length (now out)) ⌝ }
+    ensures { λ end. ⌜ Put (now (out .entry)) (now (out .exit)) at (taskBytes (editionOf edition) (taskView t)) end ⌝ }
 {
-    write_four(out, at, [0x01, t.work, t.window, t.value])
+    let high = (t.value / 256) as u8;
+    let low = (t.value % 256) as u8;
+    if edition.value_width == 1 {
+        return write_four(out, at, [0x01, t.work, t.window, low]);
+    }
+    let end = write_four(out, at, [0x01, t.work, t.window, high]);
+    out[end] = low;
+    end + 1
 }
 
 // Writes the first `count` tasks.
-fn write_tasks(out: &mut [u8], tasks: [Task; Node::MAX_TASKS], count: usize) -> usize
-    requires { ⌜ (count ≤ maxTasks) × (taskSize * count ≤ length (now out)) ⌝ }
-    ensures { λ end. ⌜ Put (now (out .entry)) (now (out .exit)) 0 (flatMap taskBytes (tasksOf tasks count)) end × (end ≤ taskSize * count) ⌝ }
+fn write_tasks(
+    out: &mut [u8],
+    tasks: [Task; Node::MAX_TASKS],
+    count: usize,
+    edition: Edition,
+) -> usize
+    requires { ⌜ (count ≤ maxTasks) × (taskWidth (editionOf edition) * count ≤ length (now out)) × Legible edition ⌝ }
+    ensures { λ end. ⌜ Put (now (out .entry)) (now (out .exit)) 0 (flatMap (taskBytes (editionOf edition)) (tasksOf tasks count)) end × (end ≤ taskWidth (editionOf edition) * count) ⌝ }
 {
     let mut end = 0;
     let mut i = 0;
     while i < count {
-        end = write_task(out, end, tasks[i]);
+        end = write_task(out, end, tasks[i], edition);
         i += 1;
     }
     end
@@ -73,18 +88,27 @@ fn write_arcs(out: &mut [u8], at: usize, next: &[u8; plan::PAIRS]) -> usize
     end
 }
 
-// Writes a plan's bytes, and gives their number.
-pub fn write(plan: Plan, out: &mut [u8]) -> usize
-    requires { ⌜ Sized plan × (planRoom ≤ length (now out)) ⌝ }
-    ensures { λ n. ⌜ n ≡ length (planBytes (planOf plan)) ⌝ }
-    ensures { λ _. ⌜ now (out .exit) ≡ overwrite (now (out .entry)) 0 (planBytes (planOf plan)) ⌝ }
+// Writes a plan's bytes in an edition, and gives their number.
+pub fn write_in(plan: Plan, out: &mut [u8], edition: Edition) -> usize
+    requires { ⌜ Legible edition × Sized plan × (planRoomIn (editionOf edition) ≤ length (now out)) ⌝ }
+    ensures { λ n. ⌜ n ≡ length (planBytesIn (editionOf edition) (planOf plan)) ⌝ }
+    ensures { λ _. ⌜ now (out .exit) ≡ overwrite (now (out .entry)) 0 (planBytesIn (editionOf edition) (planOf plan)) ⌝ }
 {
     let tasks = plan.tasks;
     let next = plan.next;
-    let head = write_tasks(out, tasks, plan.count);
+    let head = write_tasks(out, tasks, plan.count, edition);
     let arcs = write_four(out, head, [0x02, plan.policy, 0x03, plan.states]);
     let end = write_arcs(out, arcs, &next);
     let size = end + 1;
     out[end] = 0x05;
     size
+}
+
+// Writes a plan's bytes in the long-read edition, and gives their number.
+pub fn write(plan: Plan, out: &mut [u8]) -> usize
+    requires { ⌜ Sized plan × (planRoom ≤ length (now out)) ⌝ }
+    ensures { λ n. ⌜ n ≡ length (planBytes (planOf plan)) ⌝ }
+    ensures { λ _. ⌜ now (out .exit) ≡ overwrite (now (out .entry)) 0 (planBytes (planOf plan)) ⌝ }
+{
+    write_in(plan, out, Edition::long_reads())
 }

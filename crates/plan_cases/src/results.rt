@@ -17,7 +17,7 @@ fn put_result(out: &mut [u8], answer: Answer) -> usize
 {
     match answer {
         Answer::Refused(r) => text::put_refusal(out, r.number()),
-        Answer::Written(n) => text::put_number_line(out, n as u64),
+        Answer::Written(n) => text::put_number_line(out, 0, n as u64),
     }
 }
 

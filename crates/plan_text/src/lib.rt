@@ -7,7 +7,7 @@ ghost use Rattle.io.specs.Counts.{Counts};
 ghost use Rattle.model.specs.Bytes.{Put};
 ghost use Rattle.model.specs.Combine.{combine};
 ghost use Rattle.model.specs.Gap.{taskGap};
-ghost use Rattle.model.specs.Limits.{planRoom};
+ghost use Rattle.model.specs.Edition.{planRoom};
 ghost use Rattle.model.specs.Text.{planText};
 ghost use Rattle.plan_text.specs.Finish.{Finishes};
 

@@ -5,7 +5,7 @@ use mathlib.Core.List.{List, [], _++_, map}
 use Prim.Native.Nat.{ℕ, zero, suc, _+_, _-_, _*_, _/_, _%_, _<_, _≤_}
 use lib.Dec.{eqb, ltb}
 use lib.ListN.{length, getD, set}
-use Rattle.model.specs.Limits.{maxTasks, maxWindow}
+use Rattle.model.specs.Limits.{maxTasks, maxWindow, maxValue}
 use Rattle.model.specs.Lists.{consIf, flatMap, upFrom, bit}
 use Rattle.model.specs.Plan as model
 use Rattle.model.specs.Slot as model-slot
@@ -52,11 +52,12 @@ jobsIn ts k w = consIf (ltb 0 w) (jobIn ts k w) []
 unfoldable pub jobsOf : Tasks → List ℕ → List Job
 jobsOf ts cells = flatMap (λ k. jobsIn ts k (getD cells k 0)) (upFrom 0 (length cells))
 
--- "1 ≤ C ≤ D ≤ 8"
+-- "1 ≤ C ≤ D ≤" the longest window, and V at most its limit
 pub record InRange (t : model.Task) : Type 0 where
   pub work : 1 ≤ t .work
   pub within : t .work ≤ t .window
   pub window : t .window ≤ maxWindow
+  pub value : t .value ≤ maxValue
 
 pub record TasksInRange (ts : Tasks) : Type 0 where
   pub count : length ts ≤ maxTasks

@@ -52,7 +52,7 @@ pub struct Rules {
 pub struct Done {
     pub cells: [u8; CELLS],
     pub ran: u8,
-    pub gain: u8,
+    pub gain: u16,
 }
 
 // The task of a cell; one with no work and no window where it is not there.
@@ -241,7 +241,7 @@ fn age(cells: &[u8; SLOT_CELLS], left: &[u8; SLOT_CELLS]) -> [u8; CELLS]
 }
 
 // The gain where a job with so much work remaining runs.
-fn gain_in(tasks: [Task; MAX_TASKS], count: usize, k: usize, work: u8) -> u8
+fn gain_in(tasks: [Task; MAX_TASKS], count: usize, k: usize, work: u8) -> u16
     ensures { λ r. ⌜ r ≡ cond (eqb work 1) (taskAt (tasksOf tasks count) k .value) 0 ⌝ }
 {
     let task = task_in(tasks, count, k);

@@ -20,7 +20,7 @@ use Rattle.plan.specs.View.{nextOf}
 use Rattle.plan.proofs.View.{next-some}
 use Rattle.policy.specs.View.{Tasks, jobsOf, tasksIn}
 use Rattle.policy.specs.declared.Rules.{Rules}
-use Rattle.graph.specs.Outcomes.{Notes, patternIn, notesIn, notedOf, nothingNoted}
+use Rattle.graph.specs.Outcomes.{patternCount, Notes, patternIn, notesIn, notedOf, nothingNoted}
 use Rattle.graph.specs.View.{nodeOf}
 use Rattle.node.specs.declared.Node.{Node}
 use Rattle.graph.specs.declared.Noted.{Noted}
@@ -102,12 +102,12 @@ module _ {P : Plan} {r : Rules} {next m : List ℕ} {n u : ℕ} {node : Node} {l
 
     -- the patterns that are noted, in their order
     abbrev order : List ℕ
-    order = notedOf ts l (node .taken) nothingNoted .order
+    order = notedOf ts l (node .taken) (t .wanted) nothingNoted .order
 
     -- the node of such a pattern is among the nodes
     pub pattern-there : (p : ℕ) → List·Memᴰ p order → List·Memᴰ (nodeOf ts (withPattern (d .done .cells) state p)) (nodes P)
     pattern-there p k =
-        let c = order-choice ts (t .ruled .tasks) l (node .taken) (t .low) p k in
+        let c = order-choice ts (t .ruled .tasks) l (node .taken) (t .low) (t .wanted) p k in
         subst (λ (q : ℕ). List·Memᴰ (nodeOf ts (withPattern (d .done .cells) state q)) (nodes P)) (c .2) (target (c .0) (c .1))
 
     -- the patterns in the notes are such
@@ -123,3 +123,7 @@ module _ {P : Plan} {r : Rules} {next m : List ℕ} {n u : ℕ} {node : Node} {l
     there-noted p mem =
         let s = Memᴰ·of-map (patternIn notes) (upFrom 0 (d .count)) (subst (λ (n : Notes). List·Memᴰ p (n .order)) (sym (t .reaches .notes)) mem) in
         (s .0, omega (arith, mem-of-upFrom 0 (d .count) (s .1)), s .2)
+
+    -- they are patterns
+    pub pattern-small : (p : ℕ) → List·Memᴰ p order → p < patternCount
+    pattern-small p k = let s = there-noted p k in subst (λ (q : ℕ). q < patternCount) (s .2) (t .reaches .readable .low (s .0) (s .1))

@@ -1,7 +1,7 @@
 -- The edges of a label are tested by what is noted of its choices. Assumes nothing.
 use mathlib.Core.Path.{_≡_, sym, ap, ap₂, subst, _∙_}
 use mathlib.Core.Bool.{Bool, true}
-use mathlib.Core.List.{List}
+use mathlib.Core.List.{List, Memᴰ·of-map}
 use Prim.Native.Nat.{ℕ, _-_, _*_, _/_, _≤_, _<_}
 use native.Mathlib.Omega.{arith}
 use lib.IntN.{ℤ, pos, natAbs, _+ℤ_, _-ℤ_}
@@ -13,18 +13,17 @@ use Rattle.model.specs.Check.{potentialAt, withinLimit, edgeOk}
 use Rattle.model.specs.Discovery.{numberIn}
 use Rattle.model.specs.Graph.{choices, joined, worth, edgeOf, edgesAt, sameNode, nodes}
 use Rattle.model.specs.Limits.{maxPotential}
-use Rattle.model.specs.Lists.{all}
+use Rattle.model.specs.Lists.{all, upFrom}
 use Rattle.model.specs.Masks.{maskCount}
 use Rattle.model.specs.Plan.{Plan, nextIn}
 use Rattle.model.specs.Slot as model-slot
 use Rattle.model.specs.Slot.{slot}
-use Rattle.model.proofs.Lists.{mem-getD}
+use Rattle.model.proofs.Lists.{mem-getD, mem-of-upFrom}
 use Rattle.model.proofs.Tests.{all-each}
 use Rattle.plan.specs.View.{arcsIn, nextOf}
 use Rattle.policy.specs.View.{Tasks, jobsOf, tasksIn, Ruled}
 use Rattle.policy.specs.declared.Rules.{Rules}
-use Rattle.graph.specs.Outcomes as outcomes
-use Rattle.graph.specs.Outcomes.{Notes, patternIn, notesIn}
+use Rattle.graph.specs.Outcomes.{patternCount, Notes, patternIn, notesIn}
 use Rattle.graph.specs.Label.{orderIn, Reaches}
 use Rattle.graph.specs.View.{nodeOf}
 use Rattle.node.specs.declared.Node.{Node}
@@ -64,13 +63,13 @@ module _ (P : Plan) (c : Certificate) (r : Rules) (next m s : List ℕ) (claim :
     pub label-not : to ≡ 0 → true ≡ tested
     label-not e = ap (all (edgeOk (nodes P) (claim .p) (claim .q) zs u)) (sym (edges-none leads-to e))
 
-    module _ (admitted : 0 < to) (ruled : Ruled r) (low : node .taken < maskCount) (before after : List ℕ) (d : Noted)
-        (reaches : Reaches r node label before after d) (high : ℤ) (is-high : high ≡ potentialAt zs u +ℤ pos (claim .q * d .done .gain)) where
+    module _ (admitted : 0 < to) (ruled : Ruled r) (low : node .taken < maskCount) (wanted : ℕ) (before after : List ℕ) (d : Noted)
+        (reaches : Reaches r node label wanted before after d) (high : ℤ) (is-high : high ≡ potentialAt zs u +ℤ pos (claim .q * d .done .gain)) where
       abbrev state : ℕ
       state = to - 1
 
       abbrev expanded : Expanded P r next m (claim .n) u node label to before after d
-      expanded = record { leads = leads-to; admitted = admitted; ruled = ruled; low = low; reaches = reaches }
+      expanded = record { leads = leads-to; admitted = admitted; ruled = ruled; low = low; wanted = wanted; reaches = reaches }
 
       abbrev done : model-slot.Done
       done = slot P (jobsOf ts (node .cells)) label
@@ -81,8 +80,8 @@ module _ (P : Plan) (c : Certificate) (r : Rules) (next m s : List ℕ) (claim :
         fitsP = t .fitsP;
         fitsHigh = subst (λ (z : ℤ). natAbs z ≤ maxHigh) (sym is-high) (high-small (potentialAt zs u) (claim .q * d .done .gain) small potential-small);
         noted = λ k h.
-            subst (λ (n : Notes). 0 < getD (n .best) (patternIn after k) outcomes.notNoted .score) (sym (reaches .notes))
-            (order-scored ts (ruled .tasks) label (node .taken) low (patternIn after k) (noted-there expanded k h));
+            subst (λ (n : Notes). 0 < getD (n .scores) (patternIn after k) 0) (sym (reaches .notes))
+            (order-scored ts (ruled .tasks) label (node .taken) low wanted (patternIn after k) (noted-there expanded k h));
         found = λ k h.
             let v = withPattern (d .done .cells) state (patternIn after k) in
             let there = pattern-there expanded (patternIn after k) (noted-there expanded k h) in
@@ -93,7 +92,7 @@ module _ (P : Plan) (c : Certificate) (r : Rules) (next m s : List ℕ) (claim :
               potential = record {
                 certificate = c;
                 read = t .read;
-                below = omega (arith, t .count, index-below P ts m (claim .n) (t .holds) v (reaches .slot .cells) there);
+                below = omega (arith, t .count, index-below P ts m (claim .n) (t .holds) v (reaches .slot .cells) (omega (arith, reaches .readable .low k h)) there);
               };
             };
       }
@@ -105,11 +104,11 @@ module _ (P : Plan) (c : Certificate) (r : Rules) (next m s : List ℕ) (claim :
           (potentialAt zs u +ℤ (pos (claim .q * done .gain) -ℤ pos (claim .p * g)))
 
       -- and as the code computes it
-      ok-pattern : (p : ℕ) → ok p (gainIn after (d .count) p) ≡ patternOk claim zs after (d .count) m (d .done .cells) state high p
-      ok-pattern p =
+      ok-pattern : (p : ℕ) → p < patternCount → ok p (gainIn after (d .count) p) ≡ patternOk claim zs after (d .count) m (d .done .cells) state high p
+      ok-pattern p low =
           ap₂ leZ
           (ap (λ (js : List model-slot.Job). potentialAt zs (numberIn sameNode (nodes P) (record { jobs = js; taken = p; state = state }))) (sym (jobs-left expanded))
-          ∙ ap (potentialAt zs) (node-index P ts m (claim .n) (t .holds) (withPattern (d .done .cells) state p) (reaches .slot .cells)))
+          ∙ ap (potentialAt zs) (node-index P ts m (claim .n) (t .holds) (withPattern (d .done .cells) state p) (reaches .slot .cells) (omega arith)))
           (sym (weight-order (potentialAt zs u) (claim .q * done .gain) (claim .p * gainIn after (d .count) p))
           ∙ ap (λ (g : ℕ). potentialAt zs u +ℤ pos (claim .q * g) -ℤ pos (claim .p * gainIn after (d .count) p)) (sym (gained expanded))
           ∙ ap (λ (z : ℤ). z -ℤ pos (claim .p * gainIn after (d .count) p)) (sym is-high))
@@ -120,8 +119,10 @@ module _ (P : Plan) (c : Certificate) (r : Rules) (next m s : List ℕ) (claim :
           sym (ap (all (edgeOk (nodes P) (claim .p) (claim .q) zs u)) (edges-choices expanded)
           ∙ all-map (edgeOk (nodes P) (claim .p) (claim .q) zs u) (edgeOf P (nodeOf ts node) label state) (choices ts label (node .taken))
           ∙ ap (λ (l : Tasks). all (λ ms. ok (joined (node .taken) ms / 2) (worth l ms)) (choices ts label (node .taken))) (t .planned .for .tasks)
-          ∙ greatest ts (ruled .tasks) label (node .taken) low ok
+          ∙ greatest ts (ruled .tasks) label (node .taken) low wanted ok
           (λ p g h. less-charge (potentialAt zs (numberIn sameNode (nodes P) (record { jobs = done .jobs; taken = p; state = state }))) (potentialAt zs u) (claim .q * done .gain) (claim .p) g h)
-          ∙ ap (λ (n : Notes). all (λ p. ok p (getD (n .best) p outcomes.notNoted .score - 1)) (n .order)) (sym (reaches .notes))
+          ∙ ap (λ (n : Notes). all (λ p. ok p (getD (n .scores) p 0 - 1)) (n .order)) (sym (reaches .notes))
           ∙ all-same (λ p. ok p (gainIn after (d .count) p)) (patternOk claim zs after (d .count) m (d .done .cells) state high) (orderIn after (d .count))
-          (λ p k. ok-pattern p))
+          (λ p k.
+          let s = Memᴰ·of-map (patternIn after) (upFrom 0 (d .count)) k in
+          ok-pattern p (subst (λ (q : ℕ). q < patternCount) (s .2) (reaches .readable .low (s .0) (omega (arith, mem-of-upFrom 0 (d .count) (s .1)))))))

@@ -2,16 +2,15 @@
 use mathlib.Core.Path.{_≡_}
 use mathlib.Core.List.{List}
 use Prim.Native.Nat.{ℕ, _+_, _<_}
-use lib.ListN.{getD}
-use Rattle.model.specs.Check.{padded}
 use Rattle.model.specs.Graph as model
 use Rattle.model.specs.Masks.{maskCount}
 use Rattle.model.specs.Plan.{Plan, nextIn}
+use Rattle.words.specs.Packed.{packed}
 use Rattle.theory.specs.Lightest.{Best}
 use Rattle.plan.specs.View.{arcsIn, nextOf}
 use Rattle.policy.specs.View.{tasksIn, Ruled}
 use Rattle.policy.specs.declared.Rules.{Rules}
-use Rattle.graph.specs.Outcomes.{patternCount, notNoted, notesIn}
+use Rattle.graph.specs.Outcomes.{patternCount, masksIn}
 use Rattle.graph.specs.Label.{Reaches}
 use Rattle.graph.specs.View.{Planned}
 use Rattle.node.specs.declared.Node.{Node}
@@ -33,22 +32,19 @@ pub record Expanded (P : Plan) (r : Rules) (next m : List ℕ) (n u : ℕ) (node
   pub admitted : 0 < to
   pub ruled : Ruled r
   pub low : node .taken < maskCount
-  pub reaches : Reaches r node l before notes d
+  pub wanted : ℕ
+  pub reaches : Reaches r node l wanted before notes d
 
 -- the number of the node of a pattern, by its row
 abbrev pub placeOf : List ℕ → ℕ → List ℕ → ℕ → ℕ → ℕ
 placeOf m n cells state p = indexIn (rowsIn m n) (rowOf (withPattern cells state p))
 
--- the masks noted for a pattern
-abbrev pub masksIn : List ℕ → ℕ → ℕ → List ℕ
-masksIn notes count p = getD (notesIn notes count .best) p notNoted .masks
-
--- a best edge of the label l from the node u to the node v has what is noted for the pattern p
-pub record NotedBest (P : Plan) (u l v : ℕ) (notes : List ℕ) (d : Noted) (p : ℕ) : Type 0 where
+-- a best edge of the label l from the node u to the node v has what is noted for the pattern p, and its masks if they are wanted
+pub record NotedBest (P : Plan) (u l v wanted : ℕ) (notes : List ℕ) (d : Noted) (p : ℕ) : Type 0 where
   pub low : p < patternCount
   pub edge : model.Edge
   pub best : Best P u l v edge
   pub label : edge .label ≡ l
   pub kept : edge .kept ≡ d .done .gain
   pub ideal : edge .ideal + 1 ≡ scoreIn notes (d .count) p
-  pub masks : padded (edge .masks) ≡ masksIn notes (d .count) p
+  pub masks : p ≡ wanted → masksIn notes ≡ packed (edge .masks)

@@ -15,7 +15,7 @@ use Rattle.model.specs.Plan.{Plan}
 use Rattle.certificate.specs.View.{HasPotential}
 use Rattle.policy.specs.View.{cellCount, tasksIn}
 use Rattle.policy.specs.declared.Rules.{Rules}
-use Rattle.graph.specs.Outcomes.{notNoted, patternIn, notesIn}
+use Rattle.graph.specs.Outcomes.{patternIn, notesIn}
 use Rattle.graph.specs.Label.{Readable}
 use Rattle.graph.specs.View.{Planned}
 use Rattle.node.specs.declared.Node.{Node}
@@ -67,7 +67,7 @@ withPattern cells state p = record { cells = cells; taken = p; state = state }
 
 -- the score noted for a pattern, and the gain
 abbrev pub scoreIn : List ℕ → ℕ → ℕ → ℕ
-scoreIn notes count p = getD (notesIn notes count .best) p notNoted .score
+scoreIn notes count p = getD (notesIn notes count .scores) p 0
 
 abbrev pub gainIn : List ℕ → ℕ → ℕ → ℕ
 gainIn notes count p = scoreIn notes count p - 1

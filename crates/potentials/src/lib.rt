@@ -62,7 +62,14 @@ fn target_holds(n: usize, s: &[u8], m: &[u8], to: Node, bound: i64) -> bool
 
 // Whether the inequality holds on the noted outcomes: `high` is the potential of the edges' node with
 // the policy's weight.
-fn outcomes_hold(claim: Claim, s: &[u8], notes: &[u8], m: &[u8], out: Outcomes, high: i64) -> bool
+fn outcomes_hold(
+    claim: Claim,
+    s: &[u8],
+    notes: &[u32; graph::NOTE_ROOM],
+    m: &[u8],
+    out: Outcomes,
+    high: i64,
+) -> bool
     requires { ⌜ Charged claim (now s) (now notes) (now m) (out .count) (out .cells) (out .state) high ⌝ }
     ensures { λ b. ⌜ ((c : Certificate) → readCertificate (now (s .entry)) ≡ some c → b ≡ all (patternOk claim (c .potentials) (now (notes .entry)) (out .count) (now (m .entry)) (out .cells) (out .state) high) (orderIn (now (notes .entry)) (out .count))) ⌝ }
 {
@@ -93,7 +100,7 @@ fn label_holds(
     next: &[u8; plan::PAIRS],
     s: &[u8],
     from: Source,
-    notes: &mut [u8],
+    notes: &mut [u32; graph::NOTE_ROOM],
     m: &[u8],
 ) -> bool
     requires { ⌜ Ruled (setting .rules) × Testing (setting .rules) (now next) (now m) (now s) (setting .claim) × Numbered (now m) (setting .claim .n) (from .number) (from .node) × (noteRoom ≤ length (now notes)) ⌝ }
@@ -107,7 +114,7 @@ fn label_holds(
     if to == 0 {
         return true;
     }
-    let noted = graph::reach(rules, node, from.label, notes);
+    let noted = graph::reach(rules, node, from.label, graph::NO_PATTERN, notes);
     let count = noted.count;
     let done = noted.done;
     let cells = done.cells;
@@ -128,7 +135,7 @@ fn node_holds(
     next: &[u8; plan::PAIRS],
     s: &[u8],
     u: usize,
-    notes: &mut [u8],
+    notes: &mut [u32; graph::NOTE_ROOM],
     m: &[u8],
 ) -> bool
     requires { ⌜ Ruled (setting .rules) × Testing (setting .rules) (now next) (now m) (now s) (setting .claim) × (u < setting .claim .n) × (noteRoom ≤ length (now notes)) ⌝ }
@@ -160,7 +167,7 @@ pub fn edges_hold(
     next: &[u8; plan::PAIRS],
     rules: Rules,
     s: &[u8],
-    notes: &mut [u8],
+    notes: &mut [u32; graph::NOTE_ROOM],
     m: &[u8],
 ) -> bool
     requires { ⌜ Ruled rules × Testing rules (now next) (now m) (now s) claim × (noteRoom ≤ length (now notes)) ⌝ }

@@ -11,7 +11,7 @@ ghost use Prim.Native.Nat.{ℕ};
 ghost use lib.ListN.{length};
 ghost use Rattle.model.specs.Combine.{combine};
 ghost use Rattle.model.specs.Gap.{taskGap};
-ghost use Rattle.model.specs.Limits.{planRoom};
+ghost use Rattle.model.specs.Edition.{planRoom};
 ghost use Rattle.model.specs.Text.{planText};
 ghost use Rattle.arguments.specs.Decimal.{decimalIn, numberOf};
 

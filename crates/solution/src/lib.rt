@@ -23,7 +23,7 @@ pub struct Solution {
 }
 
 // The fraction that the cycle of so many steps attains.
-fn attained(rules: Rules, steps: usize, notes: &mut [u8], m: &[u8]) -> Fraction
+fn attained(rules: Rules, steps: usize, notes: &mut [u32; graph::NOTE_ROOM], m: &[u8]) -> Fraction
     requires { ⌜ Ruled rules × Circled rules (now m) steps × (linksEnd ≤ length (now m)) × (noteRoom ≤ length (now notes)) ⌝ }
     ensures { λ f. ⌜ ((P : Plan) (next : List ℕ) (prices : Prices) → Circling P rules next (now (m .entry)) prices steps → Lowers P prices (now (m .entry)) steps f) ⌝ }
     ensures { λ _. ⌜ NotesFree (now (notes .entry)) (now (notes .exit)) ⌝ }
@@ -37,7 +37,7 @@ pub fn least(
     next: &[u8; plan::PAIRS],
     rules: Rules,
     n: usize,
-    notes: &mut [u8],
+    notes: &mut [u32; graph::NOTE_ROOM],
     m: &mut [u8],
 ) -> Solution
     requires { ⌜ Ruled rules × Held rules (now next) (now m) n × (linksEnd ≤ length (now m)) × (noteRoom ≤ length (now notes)) ⌝ }

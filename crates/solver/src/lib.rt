@@ -35,7 +35,7 @@ fn solve_nodes(
     next: &[u8; plan::PAIRS],
     rules: Rules,
     n: usize,
-    notes: &mut [u8],
+    notes: &mut [u32; graph::NOTE_ROOM],
     m: &mut [u8],
     out: &mut [u8],
 ) -> Answer

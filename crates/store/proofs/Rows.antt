@@ -1,17 +1,17 @@
 -- Laws of the rows in memory. Assumes nothing.
 use mathlib.Core.Path.{_≡_, sym, ap, _∙_}
-use mathlib.Core.List.{List, [], _∷_, _++_, map, map-append, foldl, foldl-append}
-use Prim.Native.Nat.{ℕ, _+_, _*_, _≤_, _<_}
-use native.Mathlib.Nat.{zero-add, mod-lt, not-suc-le-zero}
-use native.Mathlib.Numerals.{add-one}
+use mathlib.Core.List.{List, [], _∷_, _++_, map, map-append}
+use Prim.Native.Nat.{ℕ, _+_, _*_, _/_, _%_, _≤_, _<_}
+use native.Mathlib.Nat.{zero-add, mod-lt, div-lt-iff-lt-mul, not-suc-le-zero}
 use native.Mathlib.Omega.{arith}
 use lib.Dec.{lit<}
-use lib.ListN.{length, getD, take, drop, length-map}
-use lib.Seq.{ext-getD, take-suc, getD-take, getD-drop}
+use lib.ListN.{length, getD, drop, length-map}
+use lib.Seq.{ext-getD, getD-take, getD-drop}
+use Rattle.model.specs.Bytes.{number, part}
 use Rattle.model.specs.Lists.{upFrom}
 use Rattle.model.proofs.Lists.{length-upFrom, getD-table, upFrom-append}
 use Rattle.words.proofs.Memory.{part-length}
-use Rattle.store.specs.Store.{rowBytes, rowAt, rowsIn, Distinct, hashOf, hashStep, hashes}
+use Rattle.store.specs.Store.{rowBytes, rowAt, rowsIn, Distinct, hashBase, hashStep, hashWords, cellBytes, hashOf, hashes}
 
 -- a byte of a row
 pub row-byte : (m : List ℕ) (j i : ℕ) → i < rowBytes → getD (rowAt m j) i 0 ≡ getD m (rowBytes * j + i) 0
@@ -48,15 +48,10 @@ pub distinct-none : (m : List ℕ) → Distinct (rowsIn m 0)
 unfolding rowsIn
 distinct-none m = record { apart = λ i j below. absurd (not-suc-le-zero below) }
 
--- one byte more
-pub hash-more : (bs : List ℕ) (i : ℕ) → i < length bs → hashOf (take (i + 1) bs) ≡ hashStep (hashOf (take i bs)) (getD bs i 0)
-unfolding hashOf
-hash-more bs i h = rw (add-one, take-suc bs i 0 h) (foldl-append hashStep 0 (take i bs) (getD bs i 0 ∷ []))
-
-hash-from : (h : ℕ) (bs : List ℕ) → h < hashes → foldl hashStep h bs < hashes
-hash-from h [] below = below
-hash-from h (b ∷ bs) below = hash-from (hashStep h b) bs (mod-lt (h * 31 + b) (lit< tt))
-
+-- a hash is below their number
 pub hash-lt : (bs : List ℕ) → hashOf bs < hashes
 unfolding hashOf
-hash-lt bs = hash-from 0 bs (lit< tt)
+hash-lt bs = high (hashStep (hashWords bs (cellBytes / 4)) (number (part bs cellBytes 3)) * 2654435769 + 0)
+  where
+    high : (n : ℕ) → n % hashBase / 4194304 < hashes
+    high n = let low : n % hashBase < hashes * 4194304 = mod-lt n (lit< tt) in div-lt-iff-lt-mul {k = 4194304} (lit< tt) .1 low

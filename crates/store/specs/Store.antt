@@ -1,8 +1,8 @@
 -- Rows of bytes in lent memory, numbered in order and found by their contents.
 use mathlib.Core.Path.{_≡_}
 use mathlib.Core.Bool.{cond}
-use mathlib.Core.List.{List, [], _∷_, _++_, map, foldl}
-use Prim.Native.Nat.{ℕ, zero, suc, _+_, _-_, _*_, _%_, _<_, _≤_}
+use mathlib.Core.List.{List, [], _∷_, _++_, map}
+use Prim.Native.Nat.{ℕ, zero, suc, _+_, _-_, _*_, _/_, _%_, _^_, _<_, _≤_}
 use lib.Dec.{eqb, ltb}
 use lib.ListN.{length, getD}
 use Rattle.model.specs.Bytes.{number, part, Only}
@@ -12,9 +12,12 @@ use Rattle.model.specs.Lists.{upFrom, sameNumbers}
 use Rattle.store.specs.declared.Found.{Found}
 use Rattle.store.specs.declared.Found.the-variants.{Full, At}
 
--- the bytes of a row, a node's cells, its pattern and its state; the most rows, and the number of hashes
+-- the bytes of a row, a node's cells, two of its pattern and one of its state; the most rows, and the number of hashes
+abbrev pub cellBytes : ℕ
+cellBytes = maxTasks * (maxWindow - 1)
+
 abbrev pub rowBytes : ℕ
-rowBytes = maxTasks * (maxWindow - 1) + 2
+rowBytes = cellBytes + 3
 
 abbrev pub maxRows : ℕ
 maxRows = maxNodes
@@ -48,12 +51,19 @@ indexIn = numberIn sameNumbers
 pub record Distinct (rows : List (List ℕ)) : Type 0 where
   pub apart : (i j : ℕ) → i < length rows → j < length rows → getD rows i [] ≡ getD rows j [] → i ≡ j
 
--- a row's hash
+-- a row's hash: a polynomial in its words of four bytes, and in the pattern with the state as one word more; of it the highest bits
+abbrev pub hashBase : ℕ
+hashBase = 2 ^ 32
+
 abbrev pub hashStep : ℕ → ℕ → ℕ
-hashStep h b = (h * 31 + b) % hashes
+hashStep h w = (h * 2654435769 + w) % hashBase
+
+unfoldable pub hashWords : List ℕ → ℕ → ℕ
+hashWords row zero = 0
+hashWords row (suc k) = hashStep (hashWords row k) (number (part row (4 * k) 4))
 
 unfoldable pub hashOf : List ℕ → ℕ
-hashOf row = foldl hashStep 0 row
+hashOf row = hashStep (hashStep (hashWords row (cellBytes / 4)) (number (part row cellBytes 3))) 0 / 4194304
 
 -- the last place before k where f is h, and 1; 0 where there is none
 unfoldable pub lastOf : (ℕ → ℕ) → ℕ → ℕ → ℕ

@@ -5,14 +5,17 @@ ghost use Prim.Native.Nat.{_+_, _*_, _^_, _≤_, _<_};
 ghost use lib.ListN.{length};
 ghost use Rattle.model.specs.Bytes.{bytes, overwrite};
 ghost use Rattle.model.specs.Lists.{sameNumbers};
-ghost use Rattle.store.specs.Store.{rowBytes, maxRows, hashes, storeBytes, rowAt, rowsIn, indexIn, Distinct, hashStep, hashOf, entryAt, Indexed, Cleared, Appended, Kept};
+ghost use Rattle.store.specs.Store.{rowBytes, maxRows, hashes, storeBytes, rowAt, rowsIn, indexIn, Distinct, hashBase, hashStep, hashOf, entryAt, Indexed, Cleared, Appended, Kept};
 
-// The bytes of a row, a node's cells, its pattern and its state; the most rows, and the number of hashes.
-pub const ROW_BYTES: usize = Node::CELLS + 2;
+// The bytes of a row, a node's cells, two of its pattern and one of its state; the most rows, and the number of hashes.
+pub const ROW_BYTES: usize = Node::CELLS + 3;
 
 pub const MAX_ROWS: usize = Node::MAX_NODES;
 
 const HASHES: usize = 1024;
+
+// The words of four bytes in a row's cells.
+const CELL_WORDS: usize = Node::CELLS / 4;
 
 // The rows stand first; then two bytes for each hash; then two bytes for each row.
 const BUCKETS: usize = ROW_BYTES * MAX_ROWS;
@@ -35,26 +38,36 @@ pub fn clear_index(m: &mut [u8])
     words::fill(m, BUCKETS, 2 * HASHES, 0);
 }
 
-// A row's hash.
+// A row's hash: the cells in words of four bytes, then the pattern with the state, and the highest bits of what they give.
 fn hash(row: &[u8; ROW_BYTES]) -> usize
     requires { ⌜ length (now row) ≡ rowBytes ⌝ }
     ensures { λ h. ⌜ (h ≡ hashOf (now (row .entry))) × (h < hashes) ⌝ }
 {
     let mut h = 0;
-    let mut i = 0;
-    while i < ROW_BYTES {
-        h = hash_step(h, row[i]);
-        i += 1;
+    let mut k = 0;
+    while k < CELL_WORDS {
+        h = hash_step(h, words::read_u32(row, 4 * k));
+        k += 1;
     }
-    h
+    let pattern = words::read_u16(row, Node::CELLS) as u32;
+    let last = pattern * 256 + wide(row[Node::CELLS + 2]);
+    let mixed = hash_step(hash_step(h, last), 0);
+    (mixed / 4194304) as usize
 }
 
-// The hash of some bytes and one more.
-fn hash_step(h: usize, b: u8) -> usize
-    requires { ⌜ h < hashes ⌝ }
-    ensures { λ r. ⌜ (r ≡ hashStep h b) × (r < hashes) ⌝ }
+// A byte, at a wider type.
+fn wide(b: u8) -> u32
+    ensures { λ r. ⌜ (r ≡ b) × (r < 256) ⌝ }
 {
-    (h * 31 + b as usize) % HASHES
+    b as u32
+}
+
+// The hash of some words and one more.
+fn hash_step(h: u64, w: u32) -> u64
+    requires { ⌜ h < hashBase ⌝ }
+    ensures { λ r. ⌜ (r ≡ hashStep h w) × (r < hashBase) ⌝ }
+{
+    (h * 2654435769 + w as u64) % 4294967296
 }
 
 // The j-th row.

@@ -35,12 +35,12 @@ fn put_number_with(out: &mut [u8], at: usize, n: u64, tail: &[u8]) -> usize
     put_bytes(out, number, tail)
 }
 
-// Writes the line of a number, and answers its length.
-pub fn put_number_line(out: &mut [u8], n: u64) -> usize
-    requires { ⌜ length (numberLine n) ≤ length (now out) ⌝ }
-    ensures { λ r. ⌜ Put (now (out .entry)) (now (out .exit)) 0 (numberLine n) r ⌝ }
+// Writes the line of a number at a place, and answers the place after it.
+pub fn put_number_line(out: &mut [u8], at: usize, n: u64) -> usize
+    requires { ⌜ at + length (numberLine n) ≤ length (now out) ⌝ }
+    ensures { λ r. ⌜ Put (now (out .entry)) (now (out .exit)) at (numberLine n) r ⌝ }
 {
-    put_number_with(out, 0, n, b"\n")
+    put_number_with(out, at, n, b"\n")
 }
 
 // Writes the line of a refusal, and answers its length.

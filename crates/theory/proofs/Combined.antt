@@ -9,12 +9,13 @@ use native.Mathlib.Omega.{arith}
 use lib.Dec.{ltb}
 use lib.ListN.{length}
 use Rattle.model.specs.Calls.{refuses, writes, withPlan, withRoom}
-use Rattle.model.specs.Limits.{planRoom}
+use Rattle.model.specs.Edition.{longReads, planRoom}
 use Rattle.model.specs.Refusals.{outOfRange, tooManyPairs, shortMemory}
 use Rattle.model.specs.Lists.{sameBy}
 use Rattle.model.specs.Plan.{Plan, sound, readPlan}
 use Rattle.model.specs.PlanBytes.{planBytes}
 use Rattle.model.specs.Combine.{pairs, manyPairs, numberedNext, combined, combineIn, combine, sameTask, AdmitsBoth, ManyReached}
+use Rattle.model.proofs.Plan.{long-wide}
 use Rattle.theory.proofs.Sound.{PlanSound, read-sound}
 use Rattle.theory.proofs.Automata.{arcs-rise, arcs-sound}
 use Rattle.theory.proofs.PlanRead.{plan-read-back}
@@ -44,14 +45,14 @@ module _ (P Q : Plan) (s : PlanSound P) (few : manyPairs P Q ≡ false) where
   unfolding combined
   admits-both = record {
     plan = combined P Q;
-    form = record { taken = plan-read-back (combined P Q) combined-sound; tasks = refl; policy = refl };
+    form = record { taken = plan-read-back longReads long-wide (combined P Q) combined-sound; tasks = refl; policy = refl };
     runs = combined-runs P Q s few;
   }
 
   -- it is no longer than the longest plan
   combined-fits : length (planBytes (combined P Q)) ≤ planRoom
   combined-fits =
-      plans-are-written (combined P Q) (record { bytes = planBytes (combined P Q); read = plan-read-back (combined P Q) combined-sound }) .fits
+      plans-are-written longReads long-wide (combined P Q) (record { bytes = planBytes (combined P Q); read = plan-read-back longReads long-wide (combined P Q) combined-sound }) .fits
 
 -- ---- whatever the call writes admits what both admit, and fits
 

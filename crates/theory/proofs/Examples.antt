@@ -10,7 +10,7 @@ use lib.ListN.{replicate}
 use Rattle.model.specs.Limits.{workRoom}
 use Rattle.model.specs.Bytes.{number, bytes, signed, complement}
 use Rattle.model.specs.Cases.{planA, planB, planC, certificateA, certificateB, certificateC, readA, readB, readC, passes-A, passes-B, passes-C}
-use Rattle.model.specs.Plan.{Plan, sound, readPlan, readFrom, firstFault, fault, after, width, mayFollow, inRange, taskInRange, arcInRange}
+use Rattle.model.specs.Plan.{Plan, sound, readPlan, readPlanIn, readFrom, firstFault, fault, after, width, lastOperand, mayFollow, inRange, taskInRange, arcInRange}
 use Rattle.model.specs.Slot.{Job, chosenIn, slot, ready, first, key}
 use Rattle.model.specs.Schedule.{gainFrom, policyGain}
 use Rattle.model.specs.Hopeless.{Hopeless}
@@ -19,7 +19,7 @@ use Rattle.model.specs.Discovery.{found}
 use Rattle.model.specs.Graph.{Edge, choices, edgeOf, edgesAt, edges, nodes, tooLarge}
 use Rattle.model.specs.Share.{KeptShare}
 use Rattle.model.specs.Walk.{here, go}
-use Rattle.model.specs.Certificate.{Certificate, certificateBytes, readCertificate, readPotentials, readSteps}
+use Rattle.model.specs.Certificate.{Certificate, readCertificate, readPotentials, readSteps, certificateBytesIn, readCertificateIn}
 use Rattle.model.specs.Check.{check, verdict, fractionOk, gcd, potentialsOk, cycleOk, follow, allowance}
 use Rattle.model.specs.Thousandths.{thousandths}
 use Rattle.model.specs.Solve.{Solved}
@@ -30,12 +30,12 @@ use Rattle.theory.proofs.Unique.{SameButCycle, solved-once}
 
 -- B: nothing is kept for certain, whatever is allowed
 pub claim-B : (P : Plan) × (readPlan planB ≡ sound P) × KeptShare P 0 1 0
-unfolding number signed readPlan readFrom firstFault fault after width mayFollow inRange taskInRange arcInRange slot ready first key masksOf choices edgeOf edgesAt edges found nodes tooLarge readCertificate readPotentials readSteps check verdict fractionOk gcd potentialsOk cycleOk follow allowance
+unfolding number signed readPlanIn readFrom firstFault fault after width lastOperand mayFollow inRange taskInRange arcInRange slot ready first key masksOf choices edgeOf edgesAt edges found nodes tooLarge readCertificateIn readPotentials readSteps check verdict fractionOk gcd potentialsOk cycleOk follow allowance
 claim-B = check-plan planB certificateB workRoom {N = 5} refl
 
 -- and its line is `0 1 5 0 0`
 pub line-B : checkText (check planB certificateB workRoom) ≡ 48 ∷ 32 ∷ 49 ∷ 32 ∷ 53 ∷ 32 ∷ 48 ∷ 32 ∷ 48 ∷ 10 ∷ []
-unfolding number signed readPlan readFrom firstFault fault after width mayFollow inRange taskInRange arcInRange slot ready first key masksOf choices edgeOf edgesAt edges found nodes tooLarge readCertificate readPotentials readSteps check verdict fractionOk gcd potentialsOk cycleOk follow allowance thousandths decimal checkText
+unfolding number signed readPlanIn readFrom firstFault fault after width lastOperand mayFollow inRange taskInRange arcInRange slot ready first key masksOf choices edgeOf edgesAt edges found nodes tooLarge readCertificateIn readPotentials readSteps check verdict fractionOk gcd potentialsOk cycleOk follow allowance thousandths decimal checkText
 line-B = refl
 
 -- a job of B's second task that can't finish
@@ -58,7 +58,7 @@ gain-B n = ap (λ g. 1 + g) (none n)
 
 -- C: no schedule gains more than 1
 pub claim-C : (P : Plan) × (readPlan planC ≡ sound P) × KeptShare P 1 0 1
-unfolding number signed readPlan readFrom firstFault fault after width mayFollow inRange taskInRange arcInRange slot ready first key masksOf choices edgeOf edgesAt edges found nodes tooLarge readCertificate readPotentials readSteps check verdict fractionOk gcd potentialsOk cycleOk follow allowance
+unfolding number signed readPlanIn readFrom firstFault fault after width lastOperand mayFollow inRange taskInRange arcInRange slot ready first key masksOf choices edgeOf edgesAt edges found nodes tooLarge readCertificateIn readPotentials readSteps check verdict fractionOk gcd potentialsOk cycleOk follow allowance
 claim-C = check-plan planC certificateC workRoom {N = 2} refl
 
 -- the certificate that the bytes of A are
@@ -67,7 +67,7 @@ writtenA = record { p = 1; q = 1; potentials = pos 0 ∷ []; node = 0; steps = r
 
 -- A: the solver may write this certificate, after "1 in case A"
 pub solved-A : (readCertificate certificateA ≡ some writtenA) × Solved readA writtenA 1
-unfolding number bytes signed complement readPlan readFrom firstFault fault after width mayFollow inRange taskInRange arcInRange slot ready first key masksOf choices edgeOf edgesAt edges found nodes tooLarge certificateBytes readCertificate readPotentials readSteps check verdict fractionOk gcd potentialsOk cycleOk follow allowance
+unfolding number bytes signed complement readPlanIn readFrom firstFault fault after width lastOperand mayFollow inRange taskInRange arcInRange slot ready first key masksOf choices edgeOf edgesAt edges found nodes tooLarge certificateBytesIn readCertificateIn readPotentials readSteps check verdict fractionOk gcd potentialsOk cycleOk follow allowance
 solved-A = (refl, record { form = refl; accepted = refl; potentials = smallest; passes = passes-A .passes; few = omega arith })
   where
     smallest : AllSmallest readA 1 1 (writtenA .potentials)
@@ -95,7 +95,7 @@ writtenB = record {
 
 -- B: the solver may write this certificate, after two passes; the fourth to the seventh edge of the start lead to the other nodes
 pub solved-B : (readCertificate certificateB ≡ some writtenB) × Solved readB writtenB 2
-unfolding number bytes signed complement readPlan readFrom firstFault fault after width mayFollow inRange taskInRange arcInRange slot ready first key masksOf choices edgeOf edgesAt edges found nodes tooLarge certificateBytes readCertificate readPotentials readSteps check verdict fractionOk gcd potentialsOk cycleOk follow allowance
+unfolding number bytes signed complement readPlanIn readFrom firstFault fault after width lastOperand mayFollow inRange taskInRange arcInRange slot ready first key masksOf choices edgeOf edgesAt edges found nodes tooLarge certificateBytesIn readCertificateIn readPotentials readSteps check verdict fractionOk gcd potentialsOk cycleOk follow allowance
 solved-B = (refl, record { form = refl; accepted = refl; potentials = smallest; passes = passes-B .passes; few = omega arith })
   where
     smallest : AllSmallest readB 0 1 (writtenB .potentials)
@@ -117,7 +117,7 @@ writtenC = record { p = 1; q = 0; potentials = pos 0 ∷ negsuc 0 ∷ []; node =
 
 -- C: "potentials 0, −1" are the smallest sums, so this is the only certificate that the solver may write, after "2 in case C"
 pub solved-C : (readCertificate certificateC ≡ some writtenC) × Solved readC writtenC 2
-unfolding number bytes signed complement readPlan readFrom firstFault fault after width mayFollow inRange taskInRange arcInRange slot ready first key masksOf choices edgeOf edgesAt edges found nodes tooLarge certificateBytes readCertificate readPotentials readSteps check verdict fractionOk gcd potentialsOk cycleOk follow allowance
+unfolding number bytes signed complement readPlanIn readFrom firstFault fault after width lastOperand mayFollow inRange taskInRange arcInRange slot ready first key masksOf choices edgeOf edgesAt edges found nodes tooLarge certificateBytesIn readCertificateIn readPotentials readSteps check verdict fractionOk gcd potentialsOk cycleOk follow allowance
 solved-C = (refl, record { form = refl; accepted = refl; potentials = smallest; passes = passes-C .passes; few = omega arith })
   where
     smallest : AllSmallest readC 1 0 (writtenC .potentials)

@@ -1,16 +1,15 @@
 -- How much a walk can gain: a slot keeps at most one value, and its ideal gain is at most one value a task.
 -- Assumes nothing.
-use mathlib.Core.Path.{_≡_, refl, sym, _∙_, ap, ap₂, subst}
+use mathlib.Core.Path.{_≡_, refl, sym, _∙_, ap₂, subst}
 use mathlib.Core.Bool.{Bool, true, false, cond, _&&_, _||_}
 use mathlib.Core.Option.{Option, none, some}
 use mathlib.Core.List.{List, [], _∷_, List·Memᴰ, List·Memᴰ·head, List·Memᴰ·tail}
-use Prim.Native.Nat.{ℕ, _*_, _-_, _<_, _≤_}
+use Prim.Native.Nat.{ℕ, _*_, _-_, _≤_}
 use native.Mathlib.Nat.{suc-mul, mul-le-mul, mul-le-mul-right, le-trans}
-use native.Mathlib.Decide.{decLt}
 use native.Mathlib.Omega.{arith}
 use lib.Dec.{eqb, leb}
 use lib.IntN.{natAbs}
-use lib.ListN.{length, getD, List·getD-eq-default}
+use lib.ListN.{length, getD}
 use borrow.Author.Tests.{eqb-true, leb-true, le-leb}
 use Rattle.model.specs.Limits.{maxTasks, maxValue, maxNodes, maxP, maxQ, maxPotential}
 use Rattle.model.specs.Lists.{sumOf}
@@ -20,7 +19,7 @@ use Rattle.model.specs.Graph.{Node, Edge, worth, edges}
 use Rattle.model.specs.Walk.{Walk, here, go, kept, ideal}
 use Rattle.model.specs.Check.{gcd, fractionOk, withinLimit}
 use Rattle.model.specs.Solve.{cost}
-use Rattle.model.proofs.Lists.{mem-getD}
+use Rattle.model.proofs.Lists.{at-each}
 use Rattle.model.proofs.Plan.{both}
 use Rattle.theory.proofs.Divisors.{gcd-zero}
 use Rattle.theory.proofs.Integers.{natAbs-sub-le}
@@ -33,11 +32,7 @@ Valued ts = (t : Task) → List·Memᴰ t ts → t .value ≤ maxValue
 
 -- a number without a task has no value
 value-le : (ts : List Task) → Valued ts → (i : ℕ) → getD ts i noTask .value ≤ maxValue
-value-le ts h i = by (decLt i (length ts))
-  where
-    by : Dec (i < length ts) → getD ts i noTask .value ≤ maxValue
-    by (yes l) = h (getD ts i noTask) (mem-getD ts i noTask l)
-    by (no l) = omega (arith, ap (λ (t : Task). t .value) (List·getD-eq-default ts noTask {n = i} (omega arith)))
+value-le ts h i = at-each {B = λ (t : Task). t .value ≤ maxValue} ts noTask h (omega arith) i
 
 -- a slot's gain is one value, or none
 gain-le : (ts : List Task) → Valued ts → (js : List Job) (o : Option Job) → runFirst ts js o .gain ≤ maxValue

@@ -10,12 +10,13 @@ use borrow.Author.Tests.{leb-true}
 use lib.Dec.{leb}
 use lib.ListN.{length}
 use Rattle.model.specs.Calls.{writes}
-use Rattle.model.specs.Limits.{maxGap, planRoom}
+use Rattle.model.specs.Edition.{longReads, planRoom}
+use Rattle.model.specs.Limits.{maxGap}
 use Rattle.model.specs.Refusals.{badGap}
 use Rattle.model.specs.Plan.{Plan, sound, between, readPlan}
 use Rattle.model.specs.PlanBytes.{planBytes}
 use Rattle.model.specs.Gap.{isTask, releases, gapNext, gapPlan, gapIn, taskGap, HasGap}
-use Rattle.model.proofs.Plan.{both}
+use Rattle.model.proofs.Plan.{long-wide, both}
 use Rattle.theory.proofs.Sound.{PlanSound, read-sound}
 use Rattle.theory.proofs.Automata.{arcs-rise, arcs-sound}
 use Rattle.theory.proofs.PlanRead.{plan-read-back}
@@ -47,7 +48,7 @@ module _ (P : Plan) (s : PlanSound P) (set : ℕ → Bool) (g : ℕ) (g1 : 1 ≤
   unfolding gapPlan
   gap-has = record {
     plan = gapPlan P set g;
-    form = record { taken = plan-read-back (gapPlan P set g) gap-sound; tasks = refl; policy = refl };
+    form = record { taken = plan-read-back longReads long-wide (gapPlan P set g) gap-sound; tasks = refl; policy = refl };
     runs = gap-runs set (length (P .tasks)) g g1 (gapPlan P set g) refl;
   }
 

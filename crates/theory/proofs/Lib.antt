@@ -19,6 +19,7 @@ pub mod Examples
 pub mod Written
 pub mod Short
 pub mod Gains
+pub mod Patterns
 pub mod Form
 pub mod Reread
 pub mod Solved

@@ -1,41 +1,53 @@
 -- The bytes of a sound plan: read as it, no longer than the longest, and the only ones.
 -- Assumes nothing.
-use mathlib.Core.Path.{_≡_, refl, sym, ap, _∙_}
-use Prim.Native.Nat.{ℕ, zero, suc, _*_, _≤_}
+use mathlib.Core.Path.{_≡_, refl, sym, ap, subst, _∙_}
+use Prim.Native.Nat.{ℕ, zero, suc, _+_, _-_, _*_, _≤_, _<_}
+use native.Mathlib.Nat.{mod-eq-of-lt, mul-le-mul-left, mul-suc}
 use native.Mathlib.Omega.{arith}
-use mathlib.Core.Bool.{Bool, true, false, cond, not, _&&_, _||_, false≢true}
-use mathlib.Core.List.{List, [], _∷_, _++_, append-assoc, append-nil}
+use mathlib.Core.Bool.{Bool, true, false, cond, not, false≢true}
+use mathlib.Core.List.{List, [], _∷_, _++_, map, append-assoc, append-nil}
 use mathlib.Core.Option.{some}
 use borrow.Author.Tests.{eqb-true, leb-true, eq-eqb, ne-eqb, not-true}
 use lib.Dec.{eqb, leb, ltb}
-use lib.ListN.{length, getD, take, drop, length-append}
-use Rattle.model.specs.Limits.{maxTasks, maxWindow, maxValue, maxStates, planRoom}
-use Rattle.model.specs.Lists.{flatMap}
-use Rattle.model.specs.Bytes.{bytes}
-use Rattle.model.specs.Plan.{Task, Arc, Plan, PlanAnswer, faulty, sound, Reading, nothingRead, isZero, width, mayFollow, inRange, taskInRange, fault, after, refusedOr, atEnd, readCommands, readFrom, readPlan}
-use Rattle.model.specs.PlanBytes.{taskBytes, arcBytes, planBytes, PlansAreWritten}
+use lib.ListN.{length, getD, take, drop, length-append, take-append-drop}
+use lib.Seq.{take-all, length-take-le, getD-drop}
+use Rattle.model.specs.Edition.{Edition, WideEnough, taskWidth, planRoomIn}
+use Rattle.model.specs.Limits.{maxTasks, maxStates}
+use Rattle.model.specs.Lists.{flatMap, upFrom}
+use Rattle.model.specs.Bytes.{number, bytes}
+use Rattle.model.specs.Plan.{Task, Arc, Plan, PlanAnswer, faulty, sound, Reading, nothingRead, isZero, width, mayFollow, inRange, fault, after, lastOperand, refusedOr, atEnd, readCommands, readFrom, readPlanIn}
+use Rattle.model.specs.PlanBytes.{taskBytes, arcBytes, planBytesIn, PlansAreWritten}
 use Rattle.model.proofs.Lists.{flatMap-append}
-use Rattle.model.proofs.Plan.{both, fault-none, Passes}
-use Rattle.theory.proofs.Sound.{PlanSound, Held, held-nothing, held-after, sound-plan, known-le}
+use Rattle.model.proofs.Plan.{both, width-pos, fault-none, arc-ranged, Passes}
+use Rattle.words.proofs.Numbers.{AreBytes, bytes-length, bytes-number}
+use Rattle.words.proofs.Words.{part-bytes}
+use Rattle.words.proofs.Memory.{part-map}
+use Rattle.theory.proofs.Sound.{PlanSoundIn, Held, held-nothing, held-after, sound-plan, known-le}
 use Rattle.theory.proofs.Long.{arcs-few}
-use Rattle.theory.proofs.PlanRead.{plan-read-back, one-byte}
+use Rattle.theory.proofs.PlanRead.{plan-read-back}
 
 -- ---- no longer than the longest
 
-length-tasks : (ts : List Task) → length (flatMap taskBytes ts) ≡ 4 * length ts
-unfolding bytes
-length-tasks [] = refl
-length-tasks (t ∷ ts) = omega (arith, length-append (taskBytes t) (flatMap taskBytes ts), length-tasks ts)
+length-tasks : (e : Edition) (ts : List Task) → length (flatMap (taskBytes e) ts) ≡ taskWidth e * length ts
+length-tasks e [] = omega arith
+length-tasks e (t ∷ ts) =
+    omega (
+      arith,
+      length-append (taskBytes e t) (flatMap (taskBytes e) ts),
+      bytes-length (e .valueWidth) (t .value),
+      length-tasks e ts,
+      mul-suc (taskWidth e) (length ts),
+    )
 
 length-arcs : (as′ : List Arc) → length (flatMap arcBytes as′) ≡ 4 * length as′
 length-arcs [] = refl
 length-arcs (a ∷ as′) = omega (arith, length-append (arcBytes a) (flatMap arcBytes as′), length-arcs as′)
 
-fits : (P : Plan) → PlanSound P → length (planBytes P) ≤ planRoom
-unfolding planBytes
-fits P s =
+fits : (e : Edition) (P : Plan) → PlanSoundIn e P → length (planBytesIn e P) ≤ planRoomIn e
+unfolding planBytesIn
+fits e P s =
     let r : Reading = record { tasks = P .tasks; policy = P .policy; states = P .states; arcs = P .arcs; ended = true } in
-    let few = arcs-few r (record {
+    let few = arcs-few {e = e} r (record {
       tasksFit = s .tasksFit;
       task = s .task;
       policyFits = s .policyFits;
@@ -44,15 +56,15 @@ fits P s =
       policied = λ h. s .somePolicy;
       arc = s .arc;
       rise = s .rise;
-      stated = λ e. s .someState;
+      stated = λ k. s .someState;
     }) in
     omega (
       arith,
       few,
-      s .tasksFit,
-      length-tasks (P .tasks),
+      mul-le-mul-left (taskWidth e) (s .tasksFit),
+      length-tasks e (P .tasks),
       length-arcs (P .arcs),
-      length-append (flatMap taskBytes (P .tasks)) (0x02 ∷ P .policy ∷ 0x03 ∷ P .states ∷ (flatMap arcBytes (P .arcs) ++ (0x05 ∷ []))),
+      length-append (flatMap (taskBytes e) (P .tasks)) (0x02 ∷ P .policy ∷ 0x03 ∷ P .states ∷ (flatMap arcBytes (P .arcs) ++ (0x05 ∷ []))),
       length-append (flatMap arcBytes (P .arcs)) (0x05 ∷ []),
     )
 
@@ -66,19 +78,32 @@ abbrev ending : Bool → List ℕ
 ending b = cond b (0x05 ∷ []) []
 
 -- the bytes of what has been read
-abbrev spelt : List Task → ℕ → ℕ → List Arc → Bool → List ℕ
-spelt ts p m as′ e = flatMap taskBytes ts ++ (given 0x02 p ++ (given 0x03 m ++ (flatMap arcBytes as′ ++ ending e)))
+abbrev spelt : Edition → List Task → ℕ → ℕ → List Arc → Bool → List ℕ
+spelt e ts p m as′ b = flatMap (taskBytes e) ts ++ (given 0x02 p ++ (given 0x03 m ++ (flatMap arcBytes as′ ++ ending b)))
 
-abbrev written : Reading → List ℕ
-written r = spelt (r .tasks) (r .policy) (r .states) (r .arcs) (r .ended)
+abbrev written : Edition → Reading → List ℕ
+written e r = spelt e (r .tasks) (r .policy) (r .states) (r .arcs) (r .ended)
 
 -- later commands are missing while earlier ones are
 record Ordered (r : Reading) : Type 0 where
   statesLater : r .policy ≡ 0 → r .states ≡ 0
   arcsLater : r .states ≡ 0 → r .arcs ≡ []
 
-abbrev command : ℕ → ℕ → ℕ → ℕ → List ℕ
-command c x y z = take (width c) (c ∷ x ∷ y ∷ z ∷ [])
+-- a command with its operands, the last of which has the bytes that are left
+abbrev command : Edition → ℕ → ℕ → ℕ → ℕ → List ℕ
+command e c x y z = take (width e c) (c ∷ x ∷ y ∷ bytes (width e c - 3) z)
+
+-- a task, and an arc
+command-task : (e : Edition) (x y z : ℕ) → command e 1 x y z ≡ taskBytes e (record { work = x; window = y; value = z })
+unfolding width
+command-task e x y z =
+    let left : taskWidth e - 3 ≡ e .valueWidth = omega arith in
+    ap (λ (k : ℕ). take (taskWidth e) (1 ∷ x ∷ y ∷ bytes k z)) left
+    ∙ take-all (taskWidth e) (1 ∷ x ∷ y ∷ bytes (e .valueWidth) z) (omega (arith, bytes-length (e .valueWidth) z))
+
+command-arc : (e : Edition) (x y z : ℕ) → z < 256 → command e 4 x y z ≡ arcBytes (record { from = x; label = y; to = z })
+unfolding width bytes
+command-arc e x y z h = ap (λ (t : ℕ). 4 ∷ x ∷ y ∷ t ∷ []) (mod-eq-of-lt h)
 
 zero-of : (n : ℕ) → isZero n ≡ true → n ≡ 0
 zero-of n h = eqb-true n 0 h
@@ -93,25 +118,24 @@ regroup : (h p s a b : List ℕ) → h ++ (p ++ (s ++ (a ++ b))) ≡ (h ++ (p ++
 regroup h p s a b =
     ap (λ k. h ++ (p ++ k)) (sym (append-assoc s a b)) ∙ ap (λ k. h ++ k) (sym (append-assoc p (s ++ a) b)) ∙ sym (append-assoc h (p ++ (s ++ a)) b)
 
-module _ (r : Reading) (o : Ordered r) (x y z : ℕ) where
+module _ (e : Edition) (r : Reading) (held : Held e r) (o : Ordered r) (x y z : ℕ) where
   abbrev Next : ℕ → Type 0
-  Next c = Ordered (after r c x y z) × (written (after r c x y z) ≡ written r ++ command c x y z)
+  Next c = Ordered (after r c x y z) × (written e (after r c x y z) ≡ written e r ++ command e c x y z)
 
-  spell : (c : ℕ) → Passes r c x y z → Next c
-  unfolding after width mayFollow inRange taskInRange bytes
+  spell : (c : ℕ) → Passes e r c x y z → Next c
+  unfolding after width mayFollow inRange bytes
   spell zero p = absurd (false≢true (sym (p .known)))
   spell (suc zero) p =
       let follows = both (isZero (r .policy)) (ltb (length (r .tasks)) maxTasks) (p .follows) in
       let noPolicy : r .policy ≡ 0 = zero-of (r .policy) (follows .0) in
       let noStates : r .states ≡ 0 = o .statesLater noPolicy in
-      let noArcs : r .arcs ≡ [] = o .arcsLater noStates in
-      let small : z ≤ maxValue = leb-true z maxValue (both (leb 1 z) (leb z maxValue) (both (leb 1 x && leb x y && leb y maxWindow) (leb 1 z && leb z maxValue) (p .ranged) .1) .1) in (
+      let noArcs : r .arcs ≡ [] = o .arcsLater noStates in (
         record { statesLater = o .statesLater; arcsLater = o .arcsLater },
-        (λ i. spelt (r .tasks ++ (record { work = x; window = y; value = z } ∷ [])) (noPolicy i) (noStates i) (noArcs i) false)
-            ∙ append-nil (flatMap taskBytes (r .tasks ++ (record { work = x; window = y; value = z } ∷ [])))
-            ∙ flat-snoc taskBytes (r .tasks) (record { work = x; window = y; value = z })
-            ∙ ap (λ v. flatMap taskBytes (r .tasks) ++ (1 ∷ x ∷ y ∷ v)) (one-byte z small)
-            ∙ ap (λ k. k ++ (1 ∷ x ∷ y ∷ z ∷ [])) (sym ((λ i. spelt (r .tasks) (noPolicy i) (noStates i) (noArcs i) (p .going i)) ∙ append-nil (flatMap taskBytes (r .tasks)))),
+        (λ i. spelt e (r .tasks ++ (record { work = x; window = y; value = z } ∷ [])) (noPolicy i) (noStates i) (noArcs i) false)
+            ∙ append-nil (flatMap (taskBytes e) (r .tasks ++ (record { work = x; window = y; value = z } ∷ [])))
+            ∙ flat-snoc (taskBytes e) (r .tasks) (record { work = x; window = y; value = z })
+            ∙ ap (λ v. flatMap (taskBytes e) (r .tasks) ++ v) (sym (command-task e x y z))
+            ∙ ap (λ k. k ++ command e 1 x y z) (sym ((λ i. spelt e (r .tasks) (noPolicy i) (noStates i) (noArcs i) (p .going i)) ∙ append-nil (flatMap (taskBytes e) (r .tasks)))),
       )
   spell (suc (suc zero)) p =
       let follows = both (isZero (r .policy)) (not (isZero (length (r .tasks)))) (p .follows) in
@@ -119,114 +143,118 @@ module _ (r : Reading) (o : Ordered r) (x y z : ℕ) where
       let noStates : r .states ≡ 0 = o .statesLater noPolicy in
       let noArcs : r .arcs ≡ [] = o .arcsLater noStates in
       let some : 1 ≤ x = leb-true 1 x (both (leb 1 x) (leb x 4) (p .ranged) .0) in (
-        record { statesLater = λ e. noStates; arcsLater = o .arcsLater },
-        (λ i. flatMap taskBytes (r .tasks) ++ (given-some 2 x some i ++ (given 3 (noStates i) ++ (flatMap arcBytes (noArcs i) ++ []))))
-            ∙ ap (λ k. k ++ (2 ∷ x ∷ [])) (sym ((λ i. spelt (r .tasks) (noPolicy i) (noStates i) (noArcs i) (p .going i)) ∙ append-nil (flatMap taskBytes (r .tasks)))),
+        record { statesLater = λ k. noStates; arcsLater = o .arcsLater },
+        (λ i. flatMap (taskBytes e) (r .tasks) ++ (given-some 2 x some i ++ (given 3 (noStates i) ++ (flatMap arcBytes (noArcs i) ++ []))))
+            ∙ ap (λ k. k ++ (2 ∷ x ∷ [])) (sym ((λ i. spelt e (r .tasks) (noPolicy i) (noStates i) (noArcs i) (p .going i)) ∙ append-nil (flatMap (taskBytes e) (r .tasks)))),
       )
   spell (suc (suc (suc zero))) p =
       let follows = both (not (isZero (r .policy))) (isZero (r .states)) (p .follows) in
       let noStates : r .states ≡ 0 = zero-of (r .states) (follows .1) in
       let noArcs : r .arcs ≡ [] = o .arcsLater noStates in
       let some : 1 ≤ x = leb-true 1 x (both (leb 1 x) (leb x maxStates) (p .ranged) .0) in
-      let head : List ℕ = flatMap taskBytes (r .tasks) in
+      let head : List ℕ = flatMap (taskBytes e) (r .tasks) in
       let policy : List ℕ = given 2 (r .policy) in (
-        record { statesLater = λ e. absurd (false≢true (sym (not-true (isZero (r .policy)) (follows .0)) ∙ eq-eqb (r .policy) 0 e)); arcsLater = λ e. noArcs },
+        record { statesLater = λ k. absurd (false≢true (sym (not-true (isZero (r .policy)) (follows .0)) ∙ eq-eqb (r .policy) 0 k)); arcsLater = λ k. noArcs },
         (λ i. head ++ (policy ++ (given-some 3 x some i ++ (flatMap arcBytes (noArcs i) ++ []))))
             ∙ sym (append-assoc head policy (3 ∷ x ∷ []))
-            ∙ ap (λ k. k ++ (3 ∷ x ∷ [])) (sym ((λ i. spelt (r .tasks) (r .policy) (noStates i) (noArcs i) (p .going i)) ∙ ap (λ k. head ++ k) (append-nil policy))),
+            ∙ ap (λ k. k ++ (3 ∷ x ∷ [])) (sym ((λ i. spelt e (r .tasks) (r .policy) (noStates i) (noArcs i) (p .going i)) ∙ ap (λ k. head ++ k) (append-nil policy))),
       )
   spell (suc (suc (suc (suc zero)))) p =
       let a : Arc = record { from = x; label = y; to = z } in
-      let head : List ℕ = flatMap taskBytes (r .tasks) in
+      let head : List ℕ = flatMap (taskBytes e) (r .tasks) in
       let policy : List ℕ = given 2 (r .policy) in
       let states : List ℕ = given 3 (r .states) in (
-        record { statesLater = o .statesLater; arcsLater = λ e. absurd (false≢true (sym (not-true (isZero (r .states)) (p .follows)) ∙ eq-eqb (r .states) 0 e)) },
+        record { statesLater = o .statesLater; arcsLater = λ k. absurd (false≢true (sym (not-true (isZero (r .states)) (p .follows)) ∙ eq-eqb (r .states) 0 k)) },
         ap (λ k. head ++ (policy ++ (states ++ k))) (append-nil (flatMap arcBytes (r .arcs ++ (a ∷ []))) ∙ flat-snoc arcBytes (r .arcs) a)
             ∙ regroup head policy states (flatMap arcBytes (r .arcs)) (arcBytes a)
-            ∙ ap (λ k. k ++ arcBytes a) (sym ((λ i. spelt (r .tasks) (r .policy) (r .states) (r .arcs) (p .going i)) ∙ ap (λ k. head ++ (policy ++ (states ++ k))) (append-nil (flatMap arcBytes (r .arcs))))),
+            ∙ ap (λ k. k ++ arcBytes a) (sym ((λ i. spelt e (r .tasks) (r .policy) (r .states) (r .arcs) (p .going i)) ∙ ap (λ k. head ++ (policy ++ (states ++ k))) (append-nil (flatMap arcBytes (r .arcs)))))
+            ∙ ap (λ k. written e r ++ k) (sym (command-arc e x y z (omega (arith, held .statesFit, arc-ranged e r 4 x y z refl (p .ranged) .2)))),
       )
   spell (suc (suc (suc (suc (suc zero))))) p =
-      let head : List ℕ = flatMap taskBytes (r .tasks) in
+      let head : List ℕ = flatMap (taskBytes e) (r .tasks) in
       let policy : List ℕ = given 2 (r .policy) in
       let states : List ℕ = given 3 (r .states) in (
         record { statesLater = o .statesLater; arcsLater = o .arcsLater },
         regroup head policy states (flatMap arcBytes (r .arcs)) (5 ∷ [])
-            ∙ ap (λ k. k ++ (5 ∷ [])) (sym ((λ i. spelt (r .tasks) (r .policy) (r .states) (r .arcs) (p .going i)) ∙ ap (λ k. head ++ (policy ++ (states ++ k))) (append-nil (flatMap arcBytes (r .arcs))))),
+            ∙ ap (λ k. k ++ (5 ∷ [])) (sym ((λ i. spelt e (r .tasks) (r .policy) (r .states) (r .arcs) (p .going i)) ∙ ap (λ k. head ++ (policy ++ (states ++ k))) (append-nil (flatMap arcBytes (r .arcs))))),
       )
   spell (suc (suc (suc (suc (suc (suc c)))))) p = absurd (omega (arith, known-le (suc (suc (suc (suc (suc (suc c)))))) (p .known)))
 
 -- the bytes of a command stand in front of the others
-front : (w : ℕ) (s : List ℕ) → w ≤ 4 → w ≤ length s → take w (getD s 0 0 ∷ getD s 1 0 ∷ getD s 2 0 ∷ getD s 3 0 ∷ []) ++ drop w s ≡ s
-front zero s h l = refl
-front (suc w) [] h l = absurd (omega (arith, l))
-front (suc zero) (a ∷ s) h l = refl
-front (suc (suc w)) (a ∷ []) h l = absurd (omega (arith, l))
-front (suc (suc zero)) (a ∷ b ∷ s) h l = refl
-front (suc (suc (suc w))) (a ∷ b ∷ []) h l = absurd (omega (arith, l))
-front (suc (suc (suc zero))) (a ∷ b ∷ c ∷ s) h l = refl
-front (suc (suc (suc (suc w)))) (a ∷ b ∷ c ∷ []) h l = absurd (omega (arith, l))
-front (suc (suc (suc (suc zero)))) (a ∷ b ∷ c ∷ d ∷ s) h l = refl
-front (suc (suc (suc (suc (suc w))))) (a ∷ b ∷ c ∷ d ∷ s) h l = absurd (omega (arith, h))
-
-width-most : (c : ℕ) → width c ≤ 4
-unfolding width
-width-most c = go (eqb c 1 || eqb c 4) (eqb c 5)
+front : (w c : ℕ) (bs : List ℕ) → AreBytes bs → 1 ≤ w → w ≤ suc (length bs) →
+    take w (c ∷ getD bs 0 0 ∷ getD bs 1 0 ∷ bytes (w - 3) (number (map (λ i. getD bs i 0) (upFrom 2 (w - 3))))) ++ drop w (c ∷ bs) ≡ c ∷ bs
+front zero c bs b h l = absurd (omega arith)
+front (suc zero) c bs b h l = refl
+front (suc (suc w)) c [] b h l = absurd (omega arith)
+front (suc (suc zero)) c (x ∷ bs) b h l = refl
+front (suc (suc (suc w))) c (x ∷ []) b h l = absurd (omega arith)
+front (suc (suc (suc w))) c (x ∷ y ∷ bs) b h l =
+    let size : length (take w bs) ≡ w = length-take-le w bs (omega arith) in
+    let read : number (map (λ i. getD (x ∷ y ∷ bs) i 0) (upFrom 2 w)) ≡ number (take w bs) = ap number (part-map (x ∷ y ∷ bs) 2 w (omega arith)) in
+    let back : bytes w (number (take w bs)) ≡ take w bs = ap (λ (k : ℕ). bytes k (number (take w bs))) (sym size) ∙ bytes-number (take w bs) (part-bytes (x ∷ y ∷ bs) 2 w b) in
+    ap (λ (k : ℕ). c ∷ x ∷ y ∷ (take w (bytes k (number (map (λ i. getD (x ∷ y ∷ bs) i 0) (upFrom 2 k)))) ++ drop w bs)) (suc-sub-three w)
+    ∙ ap (λ l. c ∷ x ∷ y ∷ (take w l ++ drop w bs)) (ap (bytes w) read ∙ back)
+    ∙ ap (λ l. c ∷ x ∷ y ∷ (l ++ drop w bs)) (take-all w (take w bs) (omega (arith, size)))
+    ∙ ap (λ l. c ∷ x ∷ y ∷ l) (take-append-drop w bs)
   where
-    go : (a b : Bool) → cond a 4 (cond b 1 2) ≤ 4
-    go true b = omega arith
-    go false true = omega arith
-    go false false = omega arith
+    suc-sub-three : (n : ℕ) → suc (suc (suc n)) - 3 ≡ n
+    suc-sub-three n = omega arith
 
-only-end : (r : Reading) (P : Plan) → Held r → atEnd r ≡ sound P → written r ++ [] ≡ planBytes P
-unfolding planBytes
-only-end r P held h = go (r .ended) refl h
+only-end : (e : Edition) (r : Reading) (P : Plan) → Held e r → atEnd r ≡ sound P → written e r ++ [] ≡ planBytesIn e P
+unfolding planBytesIn
+only-end e r P held h = go (r .ended) refl h
   where
     go : (b : Bool) → r .ended ≡ b →
         cond b (sound (record { tasks = r .tasks; policy = r .policy; states = r .states; arcs = r .arcs })) (faulty 1) ≡ sound P →
-        written r ++ [] ≡ planBytes P
-    go true e k =
-        let states = held .stated e in
+        written e r ++ [] ≡ planBytesIn e P
+    go true is k =
+        let states = held .stated is in
         let same : _≡_ {A = Plan} (record { tasks = r .tasks; policy = r .policy; states = r .states; arcs = r .arcs }) P = cc in
-        append-nil (written r)
-        ∙ (λ i. flatMap taskBytes (r .tasks) ++ (given-some 2 (r .policy) (held .policied states) i ++ (given-some 3 (r .states) states i ++ (flatMap arcBytes (r .arcs) ++ ending (e i)))))
-        ∙ ap planBytes same
-    go false e k = let z : _≡_ {A = ℕ} 0 1 = cc in absurd (omega arith)
+        append-nil (written e r)
+        ∙ (λ i. flatMap (taskBytes e) (r .tasks) ++ (given-some 2 (r .policy) (held .policied states) i ++ (given-some 3 (r .states) states i ++ (flatMap arcBytes (r .arcs) ++ ending (is i)))))
+        ∙ ap (planBytesIn e) same
+    go false is k = let z : _≡_ {A = ℕ} 0 1 = cc in absurd (omega arith)
 
-only-read : (n : ℕ) (bs : List ℕ) (r : Reading) (P : Plan) → Held r → Ordered r → readCommands n bs r ≡ sound P → written r ++ bs ≡ planBytes P
-only-read zero bs r P held o h = let z : _≡_ {A = ℕ} 0 1 = cc in absurd (omega arith)
-only-read (suc n) [] r P held o h = only-end r P held h
-only-read (suc n) (c ∷ bs) r P held o h =
-    go (fault r (length (c ∷ bs)) c x y z) refl h
-    (λ p k. only-read n (drop (width c) (c ∷ bs)) (after r c x y z) P (held-after r held x y z c p) (spell r o x y z c p .0) k)
-  where
-    x : ℕ
-    x = getD bs 0 0
+module _ (e : Edition) (P : Plan) where
+  only-read : (n : ℕ) (bs : List ℕ) (r : Reading) → AreBytes bs → Held e r → Ordered r → readCommands e n bs r ≡ sound P → written e r ++ bs ≡ planBytesIn e P
+  unfolding lastOperand
+  only-read zero bs r b held o h = let z : _≡_ {A = ℕ} 0 1 = cc in absurd (omega arith)
+  only-read (suc n) [] r b held o h = only-end e r P held h
+  only-read (suc n) (c ∷ bs) r b held o h =
+      go (fault e r (length (c ∷ bs)) c x y z) refl h
+      (λ p k. only-read n (drop (width e c) (c ∷ bs)) (after r c x y z) rest-bytes (held-after e r held x y z c p) (spell e r held o x y z c p .0) k)
+    where
+      x : ℕ
+      x = getD bs 0 0
 
-    y : ℕ
-    y = getD bs 1 0
+      y : ℕ
+      y = getD bs 1 0
 
-    z : ℕ
-    z = getD bs 2 0
+      z : ℕ
+      z = lastOperand e c bs
 
-    rest : PlanAnswer
-    rest = readCommands n (drop (width c) (c ∷ bs)) (after r c x y z)
+      rest : PlanAnswer
+      rest = readCommands e n (drop (width e c) (c ∷ bs)) (after r c x y z)
 
-    go : (f : ℕ) → fault r (length (c ∷ bs)) c x y z ≡ f → refusedOr f rest ≡ sound P →
-        (Passes r c x y z → rest ≡ sound P → written (after r c x y z) ++ drop (width c) (c ∷ bs) ≡ planBytes P) → written r ++ (c ∷ bs) ≡ planBytes P
-    go zero e k later =
-        let t = fault-none r (length (c ∷ bs)) c x y z e in
-        ap (λ l. written r ++ l) (sym (front (width c) (c ∷ bs) (width-most c) (t .1)))
-        ∙ sym (append-assoc (written r) (command c x y z) (drop (width c) (c ∷ bs)))
-        ∙ ap (λ l. l ++ drop (width c) (c ∷ bs)) (sym (spell r o x y z c (t .0) .1))
-        ∙ later (t .0) k
-    go (suc f) e k later = let z : _≡_ {A = ℕ} 0 1 = cc in absurd (omega arith)
+      rest-bytes : AreBytes (drop (width e c) (c ∷ bs))
+      rest-bytes i = subst (λ (v : ℕ). v < 256) (sym (getD-drop (width e c) (c ∷ bs) i 0)) (b (width e c + i))
 
-pub plans-are-written : PlansAreWritten
-unfolding readPlan readFrom
-plans-are-written P h =
+      go : (f : ℕ) → fault e r (length (c ∷ bs)) c x y z ≡ f → refusedOr f rest ≡ sound P →
+          (Passes e r c x y z → rest ≡ sound P → written e (after r c x y z) ++ drop (width e c) (c ∷ bs) ≡ planBytesIn e P) → written e r ++ (c ∷ bs) ≡ planBytesIn e P
+      go zero is k later =
+          let t = fault-none e r (length (c ∷ bs)) c x y z is in
+          ap (λ l. written e r ++ l) (sym (front (width e c) c bs (λ i. b (suc i)) (width-pos e c) (t .1)))
+          ∙ sym (append-assoc (written e r) (command e c x y z) (drop (width e c) (c ∷ bs)))
+          ∙ ap (λ l. l ++ drop (width e c) (c ∷ bs)) (sym (spell e r held o x y z c (t .0) .1))
+          ∙ later (t .0) k
+      go (suc f) is k later = let z : _≡_ {A = ℕ} 0 1 = cc in absurd (omega arith)
+
+pub plans-are-written : (e : Edition) → WideEnough e → PlansAreWritten e
+unfolding readPlanIn readFrom
+plans-are-written e wide P h =
     let s = sound-plan P h in
     record {
-      taken = plan-read-back P s;
-      fits = fits P s;
-      only = λ bs b e. only-read (suc (length bs)) bs nothingRead P held-nothing (record { statesLater = λ _. refl; arcsLater = λ _. refl }) e;
+      taken = plan-read-back e wide P s;
+      fits = fits e P s;
+      only = λ bs b is. only-read e P (suc (length bs)) bs nothingRead b (held-nothing e) (record { statesLater = λ _. refl; arcsLater = λ _. refl }) is;
     }

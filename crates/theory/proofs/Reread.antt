@@ -1,26 +1,30 @@
--- Bytes that are read as a certificate are the bytes written of it.
+-- Bytes that are read as a certificate are the bytes written of it, in each edition.
 -- Assumes nothing.
 use mathlib.Core.Path.{_≡_, refl, sym, _∙_, ap, ap₂, subst}
 use mathlib.Core.Bool.{Bool, true, false, cond, _&&_, false≢true}
 use mathlib.Core.Option.{Option, none, some, Option·none-ne-some, Option·some-injective}
 use mathlib.Core.List.{List, [], _∷_, _++_, append-assoc}
-use Prim.Native.Nat.{ℕ, zero, suc, _+_, _^_, _<_, _≤_}
+use Prim.Native.Nat.{ℕ, zero, suc, _+_, _*_, _^_, _<_, _≤_}
+use native.Mathlib.Nat.{mul-suc, mul-le-mul-left, one-le-pow}
+use native.Mathlib.Decide.{decLt}
 use native.Mathlib.Omega.{arith}
 use lib.Dec.{leb, ltb, eqb}
 use lib.IntN.{ℤ}
-use lib.ListN.{length, getD, take, drop, take-append-drop}
-use lib.Seq.{drop-cons, drop-drop, getD-drop}
+use lib.ListN.{length, getD, take, drop, List·getD-eq-default}
+use lib.Seq.{take-at, drop-cons}
 use borrow.Author.Tests.{leb-true, eqb-true}
 use Rattle.model.specs.Limits.{maxTasks, maxNodes, maxSteps}
+use Rattle.model.specs.Edition.{Edition}
 use Rattle.model.specs.Lists.{flatMap}
 use Rattle.model.specs.Bytes.{number, bytes, signed, part}
-use Rattle.model.specs.Certificate.{Step, Certificate, cycleBytes, certificateBytes, Parsed, consParsed, has, readPotentials, readSteps, isEnd, withSteps, withPotentials, readCertificate}
+use Rattle.model.specs.Certificate.{Step, Certificate, stepBytes, cycleBytes, certificateBytesIn, Parsed, consParsed, has, readPotentials, stepWidth, masksAt, readSteps, isEnd, withSteps, withPotentials, readCertificateIn}
+use Rattle.model.proofs.Lists.{flatMap-length, getD-table}
 use Rattle.model.proofs.Plan.{both}
 use Rattle.words.proofs.Complement.{complement-signed}
-use Rattle.words.proofs.Numbers.{AreBytes, number-lt, bytes-number}
-use Rattle.words.proofs.Memory.{part-length}
-use Rattle.words.proofs.Words.{part-bytes}
-use Rattle.theory.proofs.Form.{potentialBytes, stepBytes, bytes-grouped}
+use Rattle.words.proofs.Fields.{field-lt, field-written, fields-written}
+use Rattle.words.proofs.Numbers.{AreBytes, bytes-length}
+use Rattle.words.proofs.Words.{drop-bytes}
+use Rattle.theory.proofs.Form.{MasksFit, potentialBytes, bytes-grouped}
 
 -- ---- parts of a reading
 
@@ -36,16 +40,6 @@ module _ {A : Type 0} where
   cons-some a none r h = absurd (Option·none-ne-some r h)
   cons-some a (some t) r h = (t, refl, Option·some-injective _ _ h)
 
--- the bytes after some bytes
-drop-bytes : (k : ℕ) (l : List ℕ) → AreBytes l → AreBytes (drop k l)
-drop-bytes k l h i = rw getD-drop (h (k + i))
-
--- a number is written as the bytes that it was read from
-field-written : (bs : List ℕ) (at k : ℕ) → AreBytes bs → at + k ≤ length bs → bytes k (number (part bs at k)) ++ drop (at + k) bs ≡ drop at bs
-field-written bs at k h fits =
-    ap₂ (λ (m : ℕ) l. bytes m (number (part bs at k)) ++ l) (sym (part-length bs at k fits)) (sym (drop-drop k at bs))
-    ∙ ap (λ t. t ++ drop k (drop at bs)) (bytes-number (part bs at k) (part-bytes bs at k h)) ∙ take-append-drop k (drop at bs)
-
 -- a command stands before the rest
 command-cons : (bs : List ℕ) (c n : ℕ) → has bs c (suc n) ≡ true → (c ∷ drop 1 bs ≡ bs) × (suc n ≤ length bs)
 command-cons bs c n h =
@@ -59,9 +53,7 @@ command-cons bs c n h =
 potential-written : (bs : List ℕ) → AreBytes bs → has bs 0x12 9 ≡ true → potentialBytes (signed (number (part bs 1 8))) ++ drop 9 bs ≡ bs
 potential-written bs h t =
     let at = command-cons bs 0x12 8 t in
-    let small : number (part bs 1 8) < 2 ^ 64 =
-    subst (λ (k : ℕ). number (part bs 1 8) < 256 ^ k) (part-length bs 1 8 (at .1)) (number-lt (part bs 1 8) (part-bytes bs 1 8 h)) in
-    ap (λ (n : ℕ). 0x12 ∷ (bytes 8 n ++ drop 9 bs)) (complement-signed (number (part bs 1 8)) small)
+    ap (λ (n : ℕ). 0x12 ∷ (bytes 8 n ++ drop 9 bs)) (complement-signed (number (part bs 1 8)) (field-lt bs 1 8 h (at .1)))
     ∙ ap (λ l. 0x12 ∷ l) (field-written bs 1 8 h (at .1)) ∙ at .0
 
 -- so many potentials, written as they were read
@@ -86,38 +78,60 @@ potentials-written (suc n) bs r h e =
 
 -- ---- the steps
 
--- `14` label and four masks are written as they were read
-step-written : (bs : List ℕ) → eqb (getD bs 0 0) 0x14 ≡ true → 2 + maxTasks ≤ length bs →
-    stepBytes (record { label = getD bs 1 0; masks = part bs 2 maxTasks }) ++ drop (2 + maxTasks) bs ≡ bs
-step-written bs h long =
-    ap (λ l. 0x14 ∷ getD bs 1 0 ∷ (take 4 (drop 2 bs) ++ l)) (sym (drop-drop 4 2 bs))
-    ∙ ap (λ l. 0x14 ∷ getD bs 1 0 ∷ l) (take-append-drop 4 (drop 2 bs))
-    ∙ ap₂ (λ (x : ℕ) l. x ∷ l) (sym (eqb-true (getD bs 0 0) 0x14 h)) (sym (drop-cons bs 1 0 (omega arith)))
-    ∙ sym (drop-cons bs 0 0 (omega arith))
+module _ (e : Edition) where
+  module _ (bs : List ℕ) (h : AreBytes bs) (long : stepWidth e ≤ length bs) where
+    -- the masks of the step at the head fit their bytes
+    pub masks-fit : MasksFit e (masksAt e bs)
+    masks-fit = record { count = refl; below = λ i. by i (decLt i maxTasks) }
+      where
+        by : (i : ℕ) → Dec (i < maxTasks) → getD (masksAt e bs) i 0 < 256 ^ e .maskWidth
+        by i (yes l) =
+            rw (getD-table (λ i. number (part bs (2 + e .maskWidth * i) (e .maskWidth))) maxTasks i 0 l)
+            (field-lt bs (2 + e .maskWidth * i) (e .maskWidth) h (omega (arith, mul-le-mul-left (e .maskWidth) l, mul-suc (e .maskWidth) i)))
+        by i (no l) = rw (List·getD-eq-default (masksAt e bs) 0 {n = i} (omega arith)) (one-le-pow (e .maskWidth) 256 (omega arith))
 
--- steps are written as they were read
-steps-written : (n : ℕ) (bs : List ℕ) (r : Parsed (List Step)) → readSteps n bs ≡ some r → flatMap stepBytes (r .value) ++ r .rest ≡ bs
-unfolding readSteps
-steps-written zero bs r e = ap (λ s. flatMap stepBytes (s .value) ++ s .rest) (sym (Option·some-injective _ _ e))
-steps-written (suc n) bs r e = by (eqb (getD bs 0 0) 0x14) refl e (steps-written n (drop (2 + maxTasks) bs))
-  where
-    s : Step
-    s = record { label = getD bs 1 0; masks = part bs 2 maxTasks }
+    -- and are written as they were read
+    masks-written : flatMap (bytes (e .maskWidth)) (masksAt e bs) ++ drop (stepWidth e) bs ≡ drop 2 bs
+    masks-written = fields-written bs 2 (e .maskWidth) maxTasks h long
 
-    more : Option (Parsed (List Step))
-    more = readSteps n (drop (2 + maxTasks) bs)
+    pub masks-part : flatMap (bytes (e .maskWidth)) (masksAt e bs) ≡ part bs 2 (e .maskWidth * maxTasks)
+    masks-part =
+        sym (take-at (flatMap (bytes (e .maskWidth)) (masksAt e bs)) (drop (stepWidth e) bs) (e .maskWidth * maxTasks) (flatMap-length (bytes (e .maskWidth)) (e .maskWidth) (masksAt e bs) (bytes-length (e .maskWidth))))
+        ∙ ap (take (e .maskWidth * maxTasks)) masks-written
 
-    by : (b : Bool) → eqb (getD bs 0 0) 0x14 ≡ b →
-        cond b (cond (leb (2 + maxTasks) (length bs)) (consParsed s more) none) (some (record { value = []; rest = bs })) ≡ some r →
-        ((t : Parsed (List Step)) → more ≡ some t → flatMap stepBytes (t .value) ++ t .rest ≡ drop (2 + maxTasks) bs) →
-        flatMap stepBytes (r .value) ++ r .rest ≡ bs
-    by true h k later =
-        let two = cond-some (leb (2 + maxTasks) (length bs)) (consParsed s more) k in
-        let t = cons-some s more r (two .1) in
-        ap (λ u. flatMap stepBytes (u .value) ++ u .rest) (sym (t .2))
-        ∙ append-assoc (stepBytes s) (flatMap stepBytes (t .0 .value)) (t .0 .rest)
-        ∙ ap (λ l. stepBytes s ++ l) (later (t .0) (t .1)) ∙ step-written bs h (leb-true (2 + maxTasks) (length bs) (two .0))
-    by false h k later = ap (λ u. flatMap stepBytes (u .value) ++ u .rest) (sym (Option·some-injective _ _ k))
+  -- the step at the head
+  abbrev stepOf : List ℕ → Step
+  stepOf bs = record { label = getD bs 1 0; masks = masksAt e bs }
+
+  -- `14` label and four masks are written as they were read
+  step-written : (bs : List ℕ) → AreBytes bs → eqb (getD bs 0 0) 0x14 ≡ true → stepWidth e ≤ length bs →
+      stepBytes e (stepOf bs) ++ drop (stepWidth e) bs ≡ bs
+  step-written bs h t long =
+      ap (λ l. 0x14 ∷ getD bs 1 0 ∷ l) (masks-written bs h long)
+      ∙ ap₂ (λ (x : ℕ) l. x ∷ l) (sym (eqb-true (getD bs 0 0) 0x14 t)) (sym (drop-cons bs 1 0 (omega arith)))
+      ∙ sym (drop-cons bs 0 0 (omega arith))
+
+  -- steps are written as they were read
+  steps-written : (n : ℕ) (bs : List ℕ) (r : Parsed (List Step)) → AreBytes bs → readSteps e n bs ≡ some r →
+      flatMap (stepBytes e) (r .value) ++ r .rest ≡ bs
+  unfolding readSteps
+  steps-written zero bs r h f = ap (λ s. flatMap (stepBytes e) (s .value) ++ s .rest) (sym (Option·some-injective _ _ f))
+  steps-written (suc n) bs r h f = by (eqb (getD bs 0 0) 0x14) refl f (λ t. steps-written n (drop (stepWidth e) bs) t (drop-bytes (stepWidth e) bs h))
+    where
+      more : Option (Parsed (List Step))
+      more = readSteps e n (drop (stepWidth e) bs)
+
+      by : (b : Bool) → eqb (getD bs 0 0) 0x14 ≡ b →
+          cond b (cond (leb (stepWidth e) (length bs)) (consParsed (stepOf bs) more) none) (some (record { value = []; rest = bs })) ≡ some r →
+          ((t : Parsed (List Step)) → more ≡ some t → flatMap (stepBytes e) (t .value) ++ t .rest ≡ drop (stepWidth e) bs) →
+          flatMap (stepBytes e) (r .value) ++ r .rest ≡ bs
+      by true here k later =
+          let two = cond-some (leb (stepWidth e) (length bs)) (consParsed (stepOf bs) more) k in
+          let t = cons-some (stepOf bs) more r (two .1) in
+          ap (λ u. flatMap (stepBytes e) (u .value) ++ u .rest) (sym (t .2))
+          ∙ append-assoc (stepBytes e (stepOf bs)) (flatMap (stepBytes e) (t .0 .value)) (t .0 .rest)
+          ∙ ap (λ l. stepBytes e (stepOf bs) ++ l) (later (t .0) (t .1)) ∙ step-written bs h here (leb-true (stepWidth e) (length bs) (two .0))
+      by false here k later = ap (λ u. flatMap (stepBytes e) (u .value) ++ u .rest) (sym (Option·some-injective _ _ k))
 
 -- ---- the certificate
 
@@ -129,55 +143,55 @@ end-written (x ∷ y ∷ bs) h =
     absurd (omega (arith, eqb-true (length (x ∷ y ∷ bs)) 1 (both (eqb (length (x ∷ y ∷ bs)) 1) (eqb x 0x15) h .0)))
 
 -- a certificate with this fraction and these potentials, whose further bytes are these
-record Ends (p q : ℕ) (zs : List ℤ) (bs : List ℕ) (c : Certificate) : Type 0 where
+record Ends (e : Edition) (p q : ℕ) (zs : List ℤ) (bs : List ℕ) (c : Certificate) : Type 0 where
   isP : c .p ≡ p
   isQ : c .q ≡ q
   isPotentials : c .potentials ≡ zs
-  ends : cond (eqb (c .q) 0) [] (cycleBytes c) ++ (0x15 ∷ []) ≡ bs
+  ends : cond (eqb (c .q) 0) [] (cycleBytes e c) ++ (0x15 ∷ []) ≡ bs
 
-module _ (p q : ℕ) (zs : List ℤ) (bs : List ℕ) (h : AreBytes bs) where
+module _ (e : Edition) (p q : ℕ) (zs : List ℤ) (bs : List ℕ) (h : AreBytes bs) where
   -- with a cycle
-  cycle-ends : (c : Certificate) → eqb q 0 ≡ false → has bs 0x13 3 ≡ true → (o : Option (Parsed (List Step))) → readSteps maxSteps (drop 3 bs) ≡ o →
-      withSteps p q zs (number (part bs 1 2)) o ≡ some c → Ends p q zs bs c
-  cycle-ends c e t none k f = absurd (Option·none-ne-some c f)
-  cycle-ends c e t (some r) k f =
+  cycle-ends : (c : Certificate) → eqb q 0 ≡ false → has bs 0x13 3 ≡ true → (o : Option (Parsed (List Step))) → readSteps e maxSteps (drop 3 bs) ≡ o →
+      withSteps p q zs (number (part bs 1 2)) o ≡ some c → Ends e p q zs bs c
+  cycle-ends c z t none k f = absurd (Option·none-ne-some c f)
+  cycle-ends c z t (some r) k f =
       let two = cond-some (isEnd (r .rest) && ltb 0 (length (r .value))) _ f in
       let at = command-cons bs 0x13 2 t in
       let ended = end-written (r .rest) (both (isEnd (r .rest)) (ltb 0 (length (r .value))) (two .0) .0) in
-      subst (Ends p q zs bs) (Option·some-injective _ _ (two .1))
+      subst (Ends e p q zs bs) (Option·some-injective _ _ (two .1))
       (record {
         isP = refl;
         isQ = refl;
         isPotentials = refl;
         ends =
-            ap (λ b. cond b [] (cycleBytes (record { p = p; q = q; potentials = zs; node = number (part bs 1 2); steps = r .value })) ++ (0x15 ∷ [])) e
-            ∙ append-assoc (0x13 ∷ bytes 2 (number (part bs 1 2))) (flatMap stepBytes (r .value)) (0x15 ∷ [])
-            ∙ ap (λ l. 0x13 ∷ (bytes 2 (number (part bs 1 2)) ++ (flatMap stepBytes (r .value) ++ l))) ended
-            ∙ ap (λ l. 0x13 ∷ (bytes 2 (number (part bs 1 2)) ++ l)) (steps-written maxSteps (drop 3 bs) r k)
+            ap (λ b. cond b [] (cycleBytes e (record { p = p; q = q; potentials = zs; node = number (part bs 1 2); steps = r .value })) ++ (0x15 ∷ [])) z
+            ∙ append-assoc (0x13 ∷ bytes 2 (number (part bs 1 2))) (flatMap (stepBytes e) (r .value)) (0x15 ∷ [])
+            ∙ ap (λ l. 0x13 ∷ (bytes 2 (number (part bs 1 2)) ++ (flatMap (stepBytes e) (r .value) ++ l))) ended
+            ∙ ap (λ l. 0x13 ∷ (bytes 2 (number (part bs 1 2)) ++ l)) (steps-written e maxSteps (drop 3 bs) r (drop-bytes 3 bs h) k)
             ∙ ap (λ l. 0x13 ∷ l) (field-written bs 1 2 h (at .1)) ∙ at .0;
       })
 
   -- with or without one
-  rest-ends : (c : Certificate) → withPotentials p q (some (record { value = zs; rest = bs })) ≡ some c → Ends p q zs bs c
+  rest-ends : (c : Certificate) → withPotentials e p q (some (record { value = zs; rest = bs })) ≡ some c → Ends e p q zs bs c
   rest-ends c f = by (eqb q 0) refl f
     where
       bare : Certificate
       bare = record { p = p; q = q; potentials = zs; node = 0; steps = [] }
 
       full : Option Certificate
-      full = withSteps p q zs (number (part bs 1 2)) (readSteps maxSteps (drop 3 bs))
+      full = withSteps p q zs (number (part bs 1 2)) (readSteps e maxSteps (drop 3 bs))
 
-      by : (b : Bool) → eqb q 0 ≡ b → cond b (cond (isEnd bs) (some bare) none) (cond (has bs 0x13 3) full none) ≡ some c → Ends p q zs bs c
-      by true e k =
+      by : (b : Bool) → eqb q 0 ≡ b → cond b (cond (isEnd bs) (some bare) none) (cond (has bs 0x13 3) full none) ≡ some c → Ends e p q zs bs c
+      by true z k =
           let two = cond-some (isEnd bs) (some bare) k in
-          subst (Ends p q zs bs) (Option·some-injective _ _ (two .1))
+          subst (Ends e p q zs bs) (Option·some-injective _ _ (two .1))
           (record {
             isP = refl;
             isQ = refl;
             isPotentials = refl;
-            ends = ap (λ b. cond b [] (cycleBytes bare) ++ (0x15 ∷ [])) e ∙ end-written bs (two .0);
+            ends = ap (λ b. cond b [] (cycleBytes e bare) ++ (0x15 ∷ [])) z ∙ end-written bs (two .0);
           })
-      by false e k = let two = cond-some (has bs 0x13 3) full k in cycle-ends c e (two .0) (readSteps maxSteps (drop 3 bs)) refl (two .1)
+      by false z k = let two = cond-some (has bs 0x13 3) full k in cycle-ends c z (two .0) (readSteps e maxSteps (drop 3 bs)) refl (two .1)
 
 -- `11` p q N are written as they were read
 header-written : (bs : List ℕ) → AreBytes bs → has bs 0x11 11 ≡ true →
@@ -190,10 +204,10 @@ header-written bs h t =
     ∙ ap (λ l. 0x11 ∷ l) (field-written bs 1 4 h (omega (arith, at .1))) ∙ at .0
 
 -- bytes that are read as a certificate are written of it again
-pub bytes-read-back : (bs : List ℕ) (c : Certificate) → AreBytes bs → readCertificate bs ≡ some c → certificateBytes c ≡ bs
-unfolding readCertificate
-bytes-read-back bs c h e =
-    let three = cond-some (has bs 0x11 11 && leb 1 n && leb n maxNodes) (withPotentials p q (readPotentials n (drop 11 bs))) e in
+pub bytes-read-back : (e : Edition) (bs : List ℕ) (c : Certificate) → AreBytes bs → readCertificateIn e bs ≡ some c → certificateBytesIn e c ≡ bs
+unfolding readCertificateIn
+bytes-read-back e bs c h is =
+    let three = cond-some (has bs 0x11 11 && leb 1 n && leb n maxNodes) (withPotentials e p q (readPotentials n (drop 11 bs))) is in
     let two = both (has bs 0x11 11 && leb 1 n) (leb n maxNodes) (three .0) in
     by (both (has bs 0x11 11) (leb 1 n) (two .0) .0) (readPotentials n (drop 11 bs)) refl (three .1)
   where
@@ -206,12 +220,12 @@ bytes-read-back bs c h e =
     n : ℕ
     n = number (part bs 9 2)
 
-    by : has bs 0x11 11 ≡ true → (o : Option (Parsed (List ℤ))) → readPotentials n (drop 11 bs) ≡ o → withPotentials p q o ≡ some c →
-        certificateBytes c ≡ bs
+    by : has bs 0x11 11 ≡ true → (o : Option (Parsed (List ℤ))) → readPotentials n (drop 11 bs) ≡ o → withPotentials e p q o ≡ some c →
+        certificateBytesIn e c ≡ bs
     by t none k f = absurd (Option·none-ne-some c f)
     by t (some r) k f =
         let w = potentials-written n (drop 11 bs) r (drop-bytes 11 bs h) k in
-        let x = rest-ends p q (r .value) (r .rest) (w .2) c f in
-        bytes-grouped c
+        let x = rest-ends e p q (r .value) (r .rest) (w .2) c f in
+        bytes-grouped e c
         ∙ (λ i. 0x11 ∷ (bytes 4 (x .isP i) ++ (bytes 4 (x .isQ i) ++ (bytes 2 (length (x .isPotentials i)) ++ (flatMap potentialBytes (x .isPotentials i) ++ x .ends i)))))
         ∙ ap₂ (λ (m : ℕ) l. 0x11 ∷ (bytes 4 p ++ (bytes 4 q ++ (bytes 2 m ++ l)))) (w .1) (w .0) ∙ header-written bs h t

@@ -22,7 +22,7 @@ use Rattle.model.specs.Check.{potentialAt, weight, fractionOk, cycleOk}
 use Rattle.model.specs.Passes.{PassesTo, beginning}
 use Rattle.model.specs.Solve.{Solved}
 use Rattle.model.proofs.Lists.{mem-getD, length-upFrom, getD-table}
-use Rattle.theory.specs.Search.{Taken, State, distances, Quiet, Search}
+use Rattle.theory.specs.Search.{Taken, State, distancesOf, distances, Quiet, Search}
 use Rattle.theory.specs.Lightest.{nodeAt, Lightest, Along, stepOf}
 use Rattle.theory.proofs.Sound.{PlanSound}
 use Rattle.theory.proofs.Nodes.{number-at, number-getD, some-node, first-node, nodes-reachable, nodes-distinct, start-in-nodes, number-start, nodes-closed}
@@ -30,6 +30,8 @@ use Rattle.theory.proofs.Costs.{Feasible}
 use Rattle.theory.proofs.Potentials.{potentialOf, feasible-pass}
 use Rattle.theory.proofs.Distances.{AllSmallest, pass-smallest}
 use Rattle.theory.proofs.Written.{cycle-written}
+use Rattle.theory.proofs.Passes.{passes-few}
+use Rattle.theory.proofs.Searched.{told-all}
 use Rattle.theory.proofs.Solved.{solved-of}
 use Rattle.theory.proofs.Search.{search-path}
 use Rattle.theory.proofs.Circuits.{done-edge, path-along, along-walk, along-length}
@@ -86,6 +88,12 @@ module _ (P : Plan) (sd : PlanSound P) (fits : tooLarge P ≡ false) {p q c : �
           subst₂ (λ y z. y ≤ℤ (z +ℤ weight p q e)) (sym (potential (number (e .to)) (to .0))) (sym (potential (number u) (from .0)))
           (settled-edge (number u) (from .0) (settled-known (number u) (from .0)) e
           (subst (λ x. List·Memᴰ e (edges P x)) (sym (from .1)) k) .1)
+
+  -- so the passes that have found them are at most as many as nodes
+  pub settled-few : {k : ℕ} → PassesTo P p q (beginning (length (nodes P))) (distancesOf (length (nodes P)) s) k → k ≤ length (nodes P)
+  settled-few {k} passed =
+      passes-few P p q fits (distances (length (nodes P)) s) (length-distances (length (nodes P)) s) settled-smallest
+      (subst (λ ds. PassesTo P p q (beginning (length (nodes P))) ds k) (told-all (length (nodes P)) s settled-known) passed)
 
 -- ---- the certificate
 

@@ -9,6 +9,7 @@ use native.Mathlib.Omega.{arith}
 use lib.IntN.{ℤ, pos}
 use lib.ListN.{length}
 use Rattle.model.specs.Limits.{maxSteps}
+use Rattle.model.specs.Edition.{longReads}
 use Rattle.model.specs.Lists.{all}
 use Rattle.model.specs.Plan.{Plan}
 use Rattle.model.specs.Graph.{nodes, tooLarge}
@@ -17,6 +18,7 @@ use Rattle.model.specs.Check.{withinLimit, fractionOk, edgesOkFrom, potentialsO
 use Rattle.model.specs.Passes.{PassesTo, beginning}
 use Rattle.model.specs.Solve.{Solved}
 use Rattle.model.proofs.Lists.{place}
+use Rattle.model.proofs.Plan.{long-wide}
 use Rattle.model.proofs.Tests.{true-and, all-each}
 use Rattle.theory.proofs.Sound.{PlanSound}
 use Rattle.theory.proofs.Nodes.{nodes-fit}
@@ -51,7 +53,7 @@ pub solved-of : (P : Plan) → PlanSound P → tooLarge P ≡ false → (c : Cer
     length (c .steps) ≤ maxSteps → (c .q ≡ 0 → (c .node ≡ 0) × (c .steps ≡ [])) → {k : ℕ} →
     PassesTo P (c .p) (c .q) (beginning (length (nodes P))) (map some (c .potentials)) k → Solved P c k
 solved-of P sd fits c counted ok smallest cycle few bare passes = record {
-  form = certificate-read-back c (accepted-formed P fits c found few bare);
+  form = certificate-read-back longReads c (accepted-formed longReads long-wide P (λ t m. sd .task t m .windowFits) fits c found few bare);
   accepted = accepted-iff P c .1 found;
   potentials = smallest;
   passes = passes;

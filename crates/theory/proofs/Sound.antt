@@ -12,19 +12,24 @@ use lib.Dec.{leb, ltb, eqb}
 use lib.ListN.{length, getD, drop, length-append}
 use lib.Pow.{pow-mono}
 use borrow.Author.Tests.{leb-true, ltb-true, eqb-true, not-false}
-use Rattle.model.specs.Limits.{maxTasks, maxWindow, maxValue, maxStates}
-use Rattle.model.specs.Plan.{Task, Arc, Plan, PlanAnswer, faulty, sound, Reading, nothingRead, isArc, nextIn, unknown, width, mayFollow, taskInRange, arcInRange, inRange, pairBelow, rising, firstFault, fault, after, refusedOr, atEnd, readCommands, readFrom, readPlan, IsSound}
+use Rattle.model.specs.Edition.{Edition, longReads}
+use Rattle.model.specs.Limits.{maxTasks, maxStates}
+use Rattle.model.specs.Plan.{Task, Arc, Plan, PlanAnswer, faulty, sound, Reading, nothingRead, isArc, nextIn, unknown, width, mayFollow, taskInRange, arcInRange, inRange, pairBelow, rising, firstFault, fault, after, lastOperand, refusedOr, atEnd, readCommands, readFrom, readPlanIn, IsSoundIn, IsSound}
+use Rattle.model.specs.Bytes.{number}
 use Rattle.model.specs.Refusals.{bytesEnd}
 use Rattle.model.specs.Cases.{planA}
 use Rattle.model.proofs.Plan.{both, Passes, fault-none, arc-ranged}
 
--- a task in range: 1 ≤ C ≤ D, within the limits
-pub record TaskSound (t : Task) : Type 0 where
+-- a task in range: 1 ≤ C ≤ D, within the limits of the edition
+pub record TaskSoundIn (e : Edition) (t : Task) : Type 0 where
   pub someWork : 1 ≤ t .work
   pub workFits : t .work ≤ t .window
-  pub windowFits : t .window ≤ maxWindow
+  pub windowFits : t .window ≤ e .window
   pub someValue : 1 ≤ t .value
-  pub valueFits : t .value ≤ maxValue
+  pub valueFits : t .value ≤ e .value
+
+abbrev pub TaskSound : Task → Type 0
+TaskSound t = TaskSoundIn longReads t
 
 -- "S, T below M, L below 2 to the number of tasks"
 pub record ArcSound (count states : ℕ) (a : Arc) : Type 0 where
@@ -43,10 +48,10 @@ ArcsRise (a ∷ []) = Unit {0}
 ArcsRise (a ∷ b ∷ as′) = Before a b × ArcsRise (b ∷ as′)
 
 -- what the reader takes
-pub record PlanSound (P : Plan) : Type 0 where
+pub record PlanSoundIn (e : Edition) (P : Plan) : Type 0 where
   pub someTask : 1 ≤ length (P .tasks)
   pub tasksFit : length (P .tasks) ≤ maxTasks
-  pub task : (t : Task) → List·Memᴰ t (P .tasks) → TaskSound t
+  pub task : (t : Task) → List·Memᴰ t (P .tasks) → TaskSoundIn e t
   pub somePolicy : 1 ≤ P .policy
   pub policyFits : P .policy ≤ 4
   pub someState : 1 ≤ P .states
@@ -54,12 +59,15 @@ pub record PlanSound (P : Plan) : Type 0 where
   pub arc : (a : Arc) → List·Memᴰ a (P .arcs) → ArcSound (length (P .tasks)) (P .states) a
   pub rise : ArcsRise (P .arcs)
 
+abbrev pub PlanSound : Plan → Type 0
+PlanSound P = PlanSoundIn longReads P
+
 -- ---- while it is read
 
 -- what holds of the commands read so far
-pub record Held (r : Reading) : Type 0 where
+pub record Held (e : Edition) (r : Reading) : Type 0 where
   pub tasksFit : length (r .tasks) ≤ maxTasks
-  pub task : (t : Task) → List·Memᴰ t (r .tasks) → TaskSound t
+  pub task : (t : Task) → List·Memᴰ t (r .tasks) → TaskSoundIn e t
   pub policyFits : r .policy ≤ 4
   pub tasked : 1 ≤ r .policy → 1 ≤ length (r .tasks)
   pub statesFit : r .states ≤ maxStates
@@ -69,8 +77,8 @@ pub record Held (r : Reading) : Type 0 where
   pub stated : r .ended ≡ true → 1 ≤ r .states
 
 -- at the start
-pub held-nothing : Held nothingRead
-held-nothing = record {
+pub held-nothing : (e : Edition) → Held e nothingRead
+held-nothing e = record {
   tasksFit = omega arith;
   task = λ t m. absurd (List·Memᴰ·not-nil m);
   policyFits = omega arith;
@@ -79,23 +87,23 @@ held-nothing = record {
   policied = omega arith;
   arc = λ a m. absurd (List·Memᴰ·not-nil m);
   rise = tt;
-  stated = λ e. absurd (false≢true e);
+  stated = λ k. absurd (false≢true k);
 }
 
 -- the operands of a task in range
-task-ranged : (c d v : ℕ) → taskInRange c d v ≡ true → TaskSound (record { work = c; window = d; value = v })
+task-ranged : (e : Edition) (c d v : ℕ) → taskInRange e c d v ≡ true → TaskSoundIn e (record { work = c; window = d; value = v })
 unfolding taskInRange
-task-ranged c d v h =
-    let three = both (leb 1 c && leb c d && leb d maxWindow) (leb 1 v && leb v maxValue) h in
-    let two = both (leb 1 c && leb c d) (leb d maxWindow) (three .0) in
+task-ranged e c d v h =
+    let three = both (leb 1 c && leb c d && leb d (e .window)) (leb 1 v && leb v (e .value)) h in
+    let two = both (leb 1 c && leb c d) (leb d (e .window)) (three .0) in
     let one = both (leb 1 c) (leb c d) (two .0) in
-    let value = both (leb 1 v) (leb v maxValue) (three .1) in
+    let value = both (leb 1 v) (leb v (e .value)) (three .1) in
     record {
       someWork = leb-true 1 c (one .0);
       workFits = leb-true c d (one .1);
-      windowFits = leb-true d maxWindow (two .1);
+      windowFits = leb-true d (e .window) (two .1);
       someValue = leb-true 1 v (value .0);
-      valueFits = leb-true v maxValue (value .1);
+      valueFits = leb-true v (e .value) (value .1);
     }
 
 -- the test of pairs as a fact
@@ -130,9 +138,9 @@ nonzero : (n : ℕ) → not (eqb n 0) ≡ true → 1 ≤ n
 nonzero zero h = absurd (false≢true h)
 nonzero (suc n) h = omega arith
 
-module _ (r : Reading) (held : Held r) (x y z : ℕ) where
+module _ (e : Edition) (r : Reading) (held : Held e r) (x y z : ℕ) where
   -- a command without a fault keeps what is held
-  pub held-after : (c : ℕ) → Passes r c x y z → Held (after r c x y z)
+  pub held-after : (c : ℕ) → Passes e r c x y z → Held e (after r c x y z)
   unfolding after mayFollow inRange
   held-after zero p = absurd (false≢true (sym (p .known)))
   held-after (suc zero) p =
@@ -140,14 +148,14 @@ module _ (r : Reading) (held : Held r) (x y z : ℕ) where
       let more : length (r .tasks ++ (record { work = x; window = y; value = z } ∷ [])) ≡ length (r .tasks) + 1 = length-append (r .tasks) (record { work = x; window = y; value = z } ∷ []) in
       record {
         tasksFit = omega (arith, ltb-true (length (r .tasks)) maxTasks (two .1));
-        task = all-snoc (r .tasks) (record { work = x; window = y; value = z }) (held .task) (task-ranged x y z (p .ranged));
+        task = all-snoc (r .tasks) (record { work = x; window = y; value = z }) (held .task) (task-ranged e x y z (p .ranged));
         policyFits = held .policyFits;
         tasked = λ h. omega arith;
         statesFit = held .statesFit;
         policied = held .policied;
         arc = λ a m. more-tasks (omega arith) (held .arc a m);
         rise = held .rise;
-        stated = λ e. absurd (false≢true e);
+        stated = λ k. absurd (false≢true k);
       }
   held-after (suc (suc zero)) p =
       let two = both (eqb (r .policy) 0) (not (eqb (length (r .tasks)) 0)) (p .follows) in
@@ -161,7 +169,7 @@ module _ (r : Reading) (held : Held r) (x y z : ℕ) where
         policied = λ h. leb-true 1 x (range .0);
         arc = held .arc;
         rise = held .rise;
-        stated = λ e. absurd (false≢true e);
+        stated = λ k. absurd (false≢true k);
       }
   held-after (suc (suc (suc zero))) p =
       let two = both (not (eqb (r .policy) 0)) (eqb (r .states) 0) (p .follows) in
@@ -175,10 +183,10 @@ module _ (r : Reading) (held : Held r) (x y z : ℕ) where
         policied = λ h. nonzero (r .policy) (two .0);
         arc = λ a m. absurd (omega (arith, held .arc a m .fromBelow, eqb-true (r .states) 0 (two .1)));
         rise = held .rise;
-        stated = λ e. absurd (false≢true e);
+        stated = λ k. absurd (false≢true k);
       }
   held-after (suc (suc (suc (suc zero)))) p =
-      let range = arc-ranged r 4 x y z refl (p .ranged) in
+      let range = arc-ranged e r 4 x y z refl (p .ranged) in
       record {
         tasksFit = held .tasksFit;
         task = held .task;
@@ -188,7 +196,7 @@ module _ (r : Reading) (held : Held r) (x y z : ℕ) where
         policied = held .policied;
         arc = all-snoc (r .arcs) (record { from = x; label = y; to = z }) (held .arc) (record { fromBelow = range .0; labelBelow = range .1; toBelow = range .2 });
         rise = rise-snoc (r .arcs) x y z (held .rise) (p .rises);
-        stated = λ e. absurd (false≢true e);
+        stated = λ k. absurd (false≢true k);
       }
   held-after (suc (suc (suc (suc (suc zero))))) p = record {
     tasksFit = held .tasksFit;
@@ -199,22 +207,22 @@ module _ (r : Reading) (held : Held r) (x y z : ℕ) where
     policied = held .policied;
     arc = held .arc;
     rise = held .rise;
-    stated = λ e. nonzero (r .states) (p .follows);
+    stated = λ k. nonzero (r .states) (p .follows);
   }
   held-after (suc (suc (suc (suc (suc (suc c)))))) p = absurd (omega (arith, known-le (suc (suc (suc (suc (suc (suc c)))))) (p .known)))
 
 -- where the commands end, the plan is sound
-sound-end : (r : Reading) (P : Plan) → Held r → atEnd r ≡ sound P → PlanSound P
-sound-end r P held h = go (r .ended) refl h
+sound-end : (e : Edition) (r : Reading) (P : Plan) → Held e r → atEnd r ≡ sound P → PlanSoundIn e P
+sound-end e r P held h = go (r .ended) refl h
   where
-    whole : r .ended ≡ true → PlanSound (record { tasks = r .tasks; policy = r .policy; states = r .states; arcs = r .arcs })
-    whole e = record {
-      someTask = held .tasked (held .policied (held .stated e));
+    whole : r .ended ≡ true → PlanSoundIn e (record { tasks = r .tasks; policy = r .policy; states = r .states; arcs = r .arcs })
+    whole k = record {
+      someTask = held .tasked (held .policied (held .stated k));
       tasksFit = held .tasksFit;
       task = held .task;
-      somePolicy = held .policied (held .stated e);
+      somePolicy = held .policied (held .stated k);
       policyFits = held .policyFits;
-      someState = held .stated e;
+      someState = held .stated k;
       statesFit = held .statesFit;
       arc = held .arc;
       rise = held .rise;
@@ -222,43 +230,45 @@ sound-end r P held h = go (r .ended) refl h
 
     go : (b : Bool) → r .ended ≡ b →
         cond b (sound (record { tasks = r .tasks; policy = r .policy; states = r .states; arcs = r .arcs })) (faulty bytesEnd) ≡ sound P →
-        PlanSound P
-    go true e k = subst PlanSound (cc) (whole e)
-    go false e k = let z : _≡_ {A = ℕ} 0 1 = cc in absurd (omega arith)
+        PlanSoundIn e P
+    go true is k = subst (PlanSoundIn e) (cc) (whole is)
+    go false is k = let z : _≡_ {A = ℕ} 0 1 = cc in absurd (omega arith)
 
 -- from what is held, what is read on is sound
-sound-read : (n : ℕ) (bs : List ℕ) (r : Reading) (P : Plan) → Held r → readCommands n bs r ≡ sound P → PlanSound P
-sound-read zero bs r P held h = let z : _≡_ {A = ℕ} 0 1 = cc in absurd (omega arith)
-sound-read (suc n) [] r P held h = sound-end r P held h
-sound-read (suc n) (c ∷ bs) r P held h =
-    go (fault r (length (c ∷ bs)) c x y z) refl h
-    (λ p. sound-read n (drop (width c) (c ∷ bs)) (after r c x y z) P (held-after r held x y z c p))
-  where
-    x : ℕ
-    x = getD bs 0 0
+module _ (e : Edition) (P : Plan) where
+  sound-read : (n : ℕ) (bs : List ℕ) (r : Reading) → Held e r → readCommands e n bs r ≡ sound P → PlanSoundIn e P
+  sound-read zero bs r held h = let z : _≡_ {A = ℕ} 0 1 = cc in absurd (omega arith)
+  sound-read (suc n) [] r held h = sound-end e r P held h
+  sound-read (suc n) (c ∷ bs) r held h =
+      go (fault e r (length (c ∷ bs)) c x y z) refl h
+      (λ p. sound-read n (drop (width e c) (c ∷ bs)) (after r c x y z) (held-after e r held x y z c p))
+    where
+      x : ℕ
+      x = getD bs 0 0
 
-    y : ℕ
-    y = getD bs 1 0
+      y : ℕ
+      y = getD bs 1 0
 
-    z : ℕ
-    z = getD bs 2 0
+      z : ℕ
+      z = lastOperand e c bs
 
-    rest : PlanAnswer
-    rest = readCommands n (drop (width c) (c ∷ bs)) (after r c x y z)
+      rest : PlanAnswer
+      rest = readCommands e n (drop (width e c) (c ∷ bs)) (after r c x y z)
 
-    go : (f : ℕ) → fault r (length (c ∷ bs)) c x y z ≡ f → refusedOr f rest ≡ sound P →
-        (Passes r c x y z → rest ≡ sound P → PlanSound P) → PlanSound P
-    go zero e k later = later (fault-none r (length (c ∷ bs)) c x y z e .0) k
-    go (suc f) e k later = let z : _≡_ {A = ℕ} 0 1 = cc in absurd (omega arith)
+      go : (f : ℕ) → fault e r (length (c ∷ bs)) c x y z ≡ f → refusedOr f rest ≡ sound P →
+          (Passes e r c x y z → rest ≡ sound P → PlanSoundIn e P) → PlanSoundIn e P
+      go zero is k later = later (fault-none e r (length (c ∷ bs)) c x y z is .0) k
+      go (suc f) is k later = let z : _≡_ {A = ℕ} 0 1 = cc in absurd (omega arith)
 
--- a plan that the reader takes is sound
-pub read-sound : (bs : List ℕ) (P : Plan) → readPlan bs ≡ sound P → PlanSound P
-unfolding readPlan readFrom
-read-sound bs P h = sound-read (suc (length bs)) bs nothingRead P held-nothing h
+module _ {e : Edition} where
+  -- a plan that the reader takes is sound
+  pub read-sound : (bs : List ℕ) (P : Plan) → readPlanIn e bs ≡ sound P → PlanSoundIn e P
+  unfolding readPlanIn readFrom
+  read-sound bs P h = sound-read e P (suc (length bs)) bs nothingRead (held-nothing e) h
 
--- the same, from the record of the bytes
-pub sound-plan : (P : Plan) → IsSound P → PlanSound P
-sound-plan P s = read-sound (s .bytes) P (s .read)
+  -- the same, from the record of the bytes
+  pub sound-plan : (P : Plan) → IsSoundIn e P → PlanSoundIn e P
+  sound-plan P s = read-sound (s .bytes) P (s .read)
 
 -- ---- what the rest uses
 
@@ -286,7 +296,7 @@ label-below P sd s l t h =
 
 -- there are such plans: the bytes of A are read
 pub planA-sound : (P : Plan) × IsSound P
-unfolding readPlan readFrom firstFault fault after width mayFollow inRange taskInRange arcInRange
+unfolding number readPlanIn readFrom firstFault fault after width lastOperand mayFollow inRange taskInRange arcInRange
 planA-sound = (
   record {
     tasks = record { work = 1; window = 1; value = 1 } ∷ [];

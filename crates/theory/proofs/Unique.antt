@@ -14,11 +14,12 @@ use lib.ListN.{length, getD, drop}
 use lib.Seq.{ext-getD}
 use borrow.Author.Tests.{eqb-false}
 use Rattle.model.specs.Limits.{maxNodes, maxSteps}
+use Rattle.model.specs.Edition.{Edition, longReads}
 use Rattle.model.specs.Bytes.{number, part}
 use Rattle.model.specs.Plan.{Plan, IsSound}
 use Rattle.model.specs.Graph.{start, nodes, tooLarge}
 use Rattle.model.specs.Share.{KeptShare}
-use Rattle.model.specs.Certificate.{Certificate, Step, Parsed, certificateBytes, has, isEnd, readPotentials, readSteps, withSteps, withPotentials, readCertificate}
+use Rattle.model.specs.Certificate.{Certificate, Step, Parsed, certificateBytes, has, isEnd, readPotentials, readSteps, withSteps, withPotentials, readCertificateIn}
 use Rattle.model.specs.Check.{gcd, share, verdict, check, potentialAt}
 use Rattle.model.specs.Passes.{PassesTo, beginning}
 use Rattle.model.specs.Solve.{Smallest, Solved}
@@ -100,12 +101,12 @@ one-answer plan certificate certificate′ lent lent′ {p} {q} {N} {K} {p′} {
 -- ---- what the solver writes
 
 -- "`13` and `14` are missing exactly when q = 0"
-read-bare : (bs : List ℕ) (c : Certificate) → readCertificate bs ≡ some c → c .q ≡ 0 → (c .node ≡ 0) × (c .steps ≡ [])
-unfolding readCertificate
-read-bare bs c e zero-q =
+read-bare : (e : Edition) (bs : List ℕ) (c : Certificate) → readCertificateIn e bs ≡ some c → c .q ≡ 0 → (c .node ≡ 0) × (c .steps ≡ [])
+unfolding readCertificateIn
+read-bare e bs c is zero-q =
     let n = number (part bs 9 2) in
     parsed (readPotentials n (drop 11 bs))
-    (cond-some (has bs 0x11 11 && leb 1 n && leb n maxNodes) (withPotentials (number (part bs 1 4)) (number (part bs 5 4)) (readPotentials n (drop 11 bs))) e .1)
+    (cond-some (has bs 0x11 11 && leb 1 n && leb n maxNodes) (withPotentials e (number (part bs 1 4)) (number (part bs 5 4)) (readPotentials n (drop 11 bs))) is .1)
   where
     q : ℕ
     q = number (part bs 5 4)
@@ -118,7 +119,7 @@ read-bare bs c e zero-q =
 
     ended : (r : Parsed (List ℤ)) (b : Bool) → eqb q 0 ≡ b →
         cond b (cond (isEnd (r .rest)) (some (record { p = number (part bs 1 4); q = q; potentials = r .value; node = 0; steps = [] })) none)
-        (cond (has (r .rest) 0x13 3) (withSteps (number (part bs 1 4)) q (r .value) (number (part (r .rest) 1 2)) (readSteps maxSteps (drop 3 (r .rest)))) none)
+        (cond (has (r .rest) 0x13 3) (withSteps (number (part bs 1 4)) q (r .value) (number (part (r .rest) 1 2)) (readSteps e maxSteps (drop 3 (r .rest)))) none)
         ≡ some c → (c .node ≡ 0) × (c .steps ≡ [])
     ended r true f h =
         let same = sym (Option·some-injective _ _ (cond-some (isEnd (r .rest)) _ h .1)) in
@@ -126,9 +127,9 @@ read-bare bs c e zero-q =
     ended r false f h =
         absurd
         (eqb-false q 0 f
-        (sym (cycled (r .value) (number (part (r .rest) 1 2)) (readSteps maxSteps (drop 3 (r .rest))) (cond-some (has (r .rest) 0x13 3) _ h .1)) ∙ zero-q))
+        (sym (cycled (r .value) (number (part (r .rest) 1 2)) (readSteps e maxSteps (drop 3 (r .rest))) (cond-some (has (r .rest) 0x13 3) _ h .1)) ∙ zero-q))
 
-    parsed : (o : Option (Parsed (List ℤ))) → withPotentials (number (part bs 1 4)) q o ≡ some c → (c .node ≡ 0) × (c .steps ≡ [])
+    parsed : (o : Option (Parsed (List ℤ))) → withPotentials e (number (part bs 1 4)) q o ≡ some c → (c .node ≡ 0) × (c .steps ≡ [])
     parsed none h = absurd (Option·none-ne-some c h)
     parsed (some r) h = ended r (eqb q 0) refl h
 
@@ -169,8 +170,8 @@ solved-once {P} s fits {c} {c′} {k} {k′} a b = record { p = parts .0; q = pa
 
     bare : c .q ≡ 0 → c ≡ c′
     bare e =
-        let one = read-bare (certificateBytes c) c (a .form) e in
-        let two = read-bare (certificateBytes c′) c′ (b .form) (sym (parts .1) ∙ e) in
+        let one = read-bare longReads (certificateBytes c) c (a .form) e in
+        let two = read-bare longReads (certificateBytes c′) c′ (b .form) (sym (parts .1) ∙ e) in
         λ i. record {
           p = parts .0 i;
           q = parts .1 i;

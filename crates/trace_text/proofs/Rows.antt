@@ -10,9 +10,10 @@ use lib.Seq.{drop-cons, drop-drop, getD-drop}
 use Rattle.model.specs.Bytes.{number, part, overwrite, Put}
 use Rattle.model.specs.Limits.{maxLabels}
 use Rattle.model.specs.Text.{traceLine}
-use Rattle.words.proofs.Memory.{part-length, overwrite-none, overwrite-join}
-use Rattle.words.proofs.Numbers.{AreBytes, number-lt}
-use Rattle.words.proofs.Words.{part-bytes}
+use Rattle.words.proofs.Fields.{field-lt}
+use Rattle.words.proofs.Memory.{overwrite-none, overwrite-join}
+use Rattle.words.proofs.Numbers.{AreBytes}
+use Rattle.words.proofs.Words.{drop-bytes}
 use Rattle.text.proofs.Decimal.{decimal-length, field-length, trace-line-length}
 use Rattle.trace_text.specs.Rows.{lineRoom, rowLines}
 
@@ -41,11 +42,7 @@ line-fits t l r g ht hl hr hg =
 -- the gain of a row is of two bytes
 gain-fits : (rows : List ℕ) → AreBytes rows → 3 ≤ length rows → number (part rows 1 2) < 10 ^ 5
 gain-fits rows b h =
-    let low : number (part rows 1 2) < 256 ^ 2 = subst (λ (k : ℕ). number (part rows 1 2) < 256 ^ k) (part-length rows 1 2 h) (number-lt (part rows 1 2) (part-bytes rows 1 2 b)) in
-    omega arith
-
-drop-bytes : (n : ℕ) (l : List ℕ) → AreBytes l → AreBytes (drop n l)
-drop-bytes n l b i = rw (getD-drop n l i 0) (b (n + i))
+    let low : number (part rows 1 2) < 256 ^ 2 = field-lt rows 1 2 b h in omega arith
 
 -- the lines fit
 pub rows-fit : (t : ℕ) (ls rows : List ℕ) → t + length ls ≤ maxLabels → AreBytes ls → AreBytes rows → 3 * length ls ≤ length rows →

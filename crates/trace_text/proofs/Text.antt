@@ -9,7 +9,6 @@ use native.Mathlib.Omega.{arith}
 use borrow.Author.Tests.{ltb-false}
 use lib.Dec.{ltb}
 use lib.ListN.{length, take, drop}
-use lib.Seq.{take-at, drop-at}
 use Rattle.model.specs.Bytes.{number, bytes, part, overwrite}
 use Rattle.model.specs.Limits.{maxLabels, maxValue, traceRoom}
 use Rattle.model.specs.Refusals.{shortMemory, tooManyLabels, notAdmitted}
@@ -19,7 +18,7 @@ use Rattle.model.specs.Slot.{Job, Done, slot}
 use Rattle.model.specs.Text.{refusedLine, traceHeader, traceLine, traceLines, traceText}
 use Rattle.model.specs.Calls.{Writing, refuses, writes, withPlan, outputAfter}
 use Rattle.model.specs.Trace.{slots, trace, traceRun, traceBytes}
-use Rattle.words.proofs.Numbers.{number-bytes, bytes-length}
+use Rattle.words.proofs.Fields.{field-read, field-rest}
 use Rattle.theory.proofs.Sound.{sound-plan}
 use Rattle.theory.proofs.Schedules.{task-sound}
 use Rattle.policy.proofs.Gain.{gain-most}
@@ -45,14 +44,11 @@ rows-lines t (l ∷ ls) [] rest e s = absurd (omega arith)
 rows-lines t (l ∷ ls) (d ∷ ds) rest e (one g s) =
     (λ i. traceLine t l (d .ran) (gain i) ++ rowLines (suc t) ls (later i)) ∙ ap (λ (r : List ℕ). traceLine t l (d .ran) (d .gain) ++ r) (rows-lines (suc t) ls ds rest (suc-inj e) s)
   where
-    two : part ((d .ran ∷ bytes 2 (d .gain)) ++ traceBytes ds ++ rest) 1 2 ≡ bytes 2 (d .gain)
-    two = ap (take 2) (append-assoc (bytes 2 (d .gain)) (traceBytes ds) rest) ∙ take-at (bytes 2 (d .gain)) (traceBytes ds ++ rest) 2 (bytes-length 2 (d .gain))
-
     gain : number (part ((d .ran ∷ bytes 2 (d .gain)) ++ traceBytes ds ++ rest) 1 2) ≡ d .gain
-    gain = ap number two ∙ number-bytes 2 (d .gain) g
+    gain = ap (λ l. number (take 2 l)) (append-assoc (bytes 2 (d .gain)) (traceBytes ds) rest) ∙ field-read 2 (d .gain) (traceBytes ds ++ rest) g
 
     later : drop 3 ((d .ran ∷ bytes 2 (d .gain)) ++ traceBytes ds ++ rest) ≡ traceBytes ds ++ rest
-    later = ap (drop 2) (append-assoc (bytes 2 (d .gain)) (traceBytes ds) rest) ∙ drop-at (bytes 2 (d .gain)) (traceBytes ds ++ rest) 2 (bytes-length 2 (d .gain))
+    later = ap (drop 2) (append-assoc (bytes 2 (d .gain)) (traceBytes ds) rest) ∙ field-rest 2 (d .gain) (traceBytes ds ++ rest)
 
 -- the slots of a sound plan gain no more than a value
 slots-small : (P : Plan) → IsSound P → (js : List Job) (ls : List ℕ) → Small (slots P js ls)

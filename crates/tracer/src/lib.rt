@@ -43,12 +43,12 @@ fn admitted(next: &[u8; plan::PAIRS], labels: &[u8]) -> bool
 }
 
 // Writes what a slot did: the task that ran, and the gain in two bytes.
-fn put_slot(out: &mut [u8], at: usize, ran: u8, gain: u8)
+fn put_slot(out: &mut [u8], at: usize, ran: u8, gain: u16)
     requires { ⌜ at + 3 ≤ length (now out) ⌝ }
     ensures { λ _. ⌜ now (out .exit) ≡ overwrite (now (out .entry)) at (ran ∷ bytes 2 gain) ⌝ }
 {
     out[at] = ran;
-    words::write_u16(out, at + 1, gain as u16);
+    words::write_u16(out, at + 1, gain);
 }
 
 // Writes what each label's slot did.

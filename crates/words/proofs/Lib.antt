@@ -1,7 +1,9 @@
 pub mod Complement
+pub mod Fields
 pub mod Free
 pub mod Memory
 pub mod Numbers
+pub mod Packed
 pub mod Signed
 pub mod Words
 pub mod Tables

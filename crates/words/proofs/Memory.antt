@@ -1,14 +1,15 @@
 -- Laws of a write into memory: what stands where it was written, and that everything else stands as it did. Assumes nothing.
-use mathlib.Core.Path.{_≡_, sym, _∙_, ap}
+use mathlib.Core.Path.{_≡_, refl, sym, _∙_, ap}
 use mathlib.Core.Logic.{_⊎_, ⊎-elim, ⊎-map}
-use mathlib.Core.List.{List, [], _∷_, _++_, append-assoc, append-nil}
-use Prim.Native.Nat.{ℕ, suc, _+_, _-_, _≤_, _<_}
+use mathlib.Core.List.{List, [], _∷_, _++_, map, append-assoc, append-nil}
+use Prim.Native.Nat.{ℕ, zero, suc, _+_, _-_, _≤_, _<_}
 use native.Mathlib.Omega.{arith}
 use lib.ListN.{length, getD, set, take, drop, replicate, length-append, length-replicate, length-take, length-drop, take-append-drop, drop-of-length-le, List·getD-append}
-use lib.Seq.{length-take-le, take-at, drop-at, take-append-seam, drop-append-add, drop-drop, getD-append-add, getD-take, getD-drop, set-split, take-suc, append-snoc, ext-getD}
+use lib.Seq.{length-take-le, take-at, drop-at, take-append-seam, drop-append-add, drop-cons, drop-drop, getD-append-add, getD-take, getD-drop, set-split, take-suc, append-snoc, ext-getD}
 use native.Mathlib.Nat.{add-zero, add-assoc}
 use native.Mathlib.Numerals.{add-one}
 use Rattle.model.specs.Bytes.{part, overwrite, cleared}
+use Rattle.model.specs.Lists.{upFrom}
 
 -- two lists of one length that agree in a place have the same part there
 pub part-ext : (l r : List ℕ) (at k : ℕ) → length l ≡ length r
@@ -105,6 +106,12 @@ overwrite-more m at xs n b size fits =
 
 pub part-length : (m : List ℕ) (at k : ℕ) → at + k ≤ length m → length (part m at k) ≡ k
 part-length m at k fits = simp (length-take, length-drop) (omega arith)
+
+-- its bytes, one by one
+pub part-map : (m : List ℕ) (at k : ℕ) → at + k ≤ length m → map (λ i. getD m i 0) (upFrom at k) ≡ part m at k
+part-map m at zero fits = refl
+part-map m at (suc k) fits =
+    ap (λ (l : List ℕ). getD m at 0 ∷ l) (part-map m (suc at) k (omega arith)) ∙ sym (ap (take (suc k)) (drop-cons m at 0 (omega arith)))
 
 -- one byte more
 pub part-more : (m : List ℕ) (at k : ℕ) → at + k < length m → part m at (k + 1) ≡ part m at k ++ (getD m (at + k) 0 ∷ [])

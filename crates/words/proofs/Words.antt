@@ -44,10 +44,17 @@ pub number-overwrite : (m : List ℕ) (at k n : ℕ) → at + k ≤ length m →
 number-overwrite m at k n fits small =
     ap number (rw (bytes-length k n) at (overwrite-part m at (bytes k n) (omega (arith, bytes-length k n)))) ∙ number-bytes k n small
 
+-- a part of numbers below b is below b
+pub part-below : (b : ℕ) → 0 < b → (m : List ℕ) (at k : ℕ) → ((i : ℕ) → getD m i 0 < b) → (i : ℕ) → getD (part m at k) i 0 < b
+part-below b pos m at k h i = by (decLt i k)
+  where
+    by : Dec (i < k) → getD (part m at k) i 0 < b
+    by (yes below) = rw (getD-take, getD-drop) (h (at + i))
+    by (no past) = rw (List·getD-eq-default (part m at k) 0 {n = i} (omega (arith, length-take k (drop at m)))) pos
+
 -- what stands in a part of bytes is bytes
 pub part-bytes : (m : List ℕ) (at k : ℕ) → AreBytes m → AreBytes (part m at k)
-part-bytes m at k h i = by (decLt i k)
-  where
-    by : Dec (i < k) → getD (part m at k) i 0 < 256
-    by (yes below) = rw (getD-take, getD-drop) (h (at + i))
-    by (no past) = rw (List·getD-eq-default (part m at k) 0 {n = i} (omega (arith, length-take k (drop at m)))) (lit< tt)
+part-bytes = part-below 256 (lit< tt)
+
+pub drop-bytes : (k : ℕ) (m : List ℕ) → AreBytes m → AreBytes (drop k m)
+drop-bytes k m h i = rw getD-drop (h (k + i))

@@ -34,7 +34,7 @@ fn write_potentials(n: usize, m: &[u8], out: &mut [u8])
 fn write_cycle(
     rules: Rules,
     k: usize,
-    notes: &mut [u8],
+    notes: &mut [u32; graph::NOTE_ROOM],
     m: &[u8],
     out: &mut [u8],
     at: usize,
@@ -56,7 +56,7 @@ pub fn write(
     rules: Rules,
     n: usize,
     solution: Solution,
-    notes: &mut [u8],
+    notes: &mut [u32; graph::NOTE_ROOM],
     m: &[u8],
     out: &mut [u8],
 ) -> usize

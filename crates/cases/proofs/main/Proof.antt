@@ -60,6 +60,9 @@ combine-case-requires c κs = search needs
 passes-case-requires : tie.Need-passes-case-requires Inv-loop μ-loop
 passes-case-requires c κs = search needs
 
+call-case-requires : tie.Need-call-case-requires Inv-loop μ-loop
+call-case-requires c κs = search needs
+
 slice-aggregate-write-all : tie.Need-slice-aggregate-write-all Inv-loop μ-loop
 slice-aggregate-write-all c = search needs
 
@@ -101,6 +104,7 @@ main-spec =
     gap-case-requires
     combine-case-requires
     passes-case-requires
+    call-case-requires
     slice-aggregate-write-all
     write-all-requires
     sub-left

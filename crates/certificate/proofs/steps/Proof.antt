@@ -10,6 +10,7 @@ use borrow.Author.Needs.{needs}
 use borrow.Author.Tests.{not-true, not-false}
 use lib.ListN.{drop}
 use Rattle.model.specs.Limits.{maxSteps}
+use Rattle.model.specs.Edition.{longReads}
 use Rattle.model.specs.Certificate.{has, readSteps}
 use Rattle.certificate.specs.View.{stepCommand, stepSize, stepIn}
 use Rattle.certificate.proofs.Runs.{Reached, reached-start, reached-next, reached-end, reached-all, reached-fault, step-next, step-fault, step-none}
@@ -17,7 +18,7 @@ use Rattle.certificate.proofs.steps.Statement.{statement}
 use Rattle.certificate.proofs.steps.Tie as tie
 
 abbrev Inv-loop : tie.InvT-loop
-Inv-loop s i₀ from i cursor = Reached readSteps (stepIn s) s (from .at) stepSize maxSteps i (cursor .at)
+Inv-loop s i₀ from i cursor = Reached (readSteps longReads) (stepIn s) s (from .at) stepSize maxSteps i (cursor .at)
 
 abbrev μ-loop : tie.MeasureT-loop
 μ-loop s i₀ from i cursor = maxSteps - i
@@ -69,7 +70,7 @@ loop-again c =
     let i = l .before .loop .inv in
     let fits = c .before .if2 .left in
     let bs = bytes (l .before) in
-    subst (Reached readSteps (stepIn bs) bs (l .before .before .before .args .from .at) stepSize maxSteps _)
+    subst (Reached (readSteps longReads) (stepIn bs) bs (l .before .before .before .args .from .at) stepSize maxSteps _)
     (sym (c .past .ensures))
     (reached-next _ _ _ _ _ _ _ _ i (l .loop-test .taken) (omega (arith, i .inside, fits)) (step-next bs (place (l .before)) (stands e) fits))
 

@@ -1,6 +1,7 @@
 -- `certificate_bytes::write_step` meets its contract: two stores, and the masks after them.
 -- Assumes nothing.
 use mathlib.Core.Path.{_∙_}
+use denote.Ref.{now}
 use native.Mathlib.Omega.{arith}
 use lib.ListN.{length-set}
 use borrow.Author.Needs.{needs}
@@ -17,22 +18,20 @@ add-out c = search needs
 slice-write-out-2 : tie.Need-slice-write-out-2
 slice-write-out-2 c = simp length-set (omega arith)
 
-slice-aggregate-copy : tie.Need-slice-aggregate-copy
-slice-aggregate-copy c = search needs
+add-write-u64 : tie.Need-add-write-u64
+add-write-u64 c = search needs
 
-add-copy : tie.Need-add-copy
-add-copy c = search needs
-
-copy-requires : tie.Need-copy-requires
-copy-requires c κs = (omega arith, simp length-set (omega arith))
+write-u64-requires : tie.Need-write-u64-requires
+write-u64-requires c κs = simp length-set (omega arith)
 
 same-length : tie.Need-same-length
-same-length c = c .before .before .copy .kept .1 .1 .0 ∙ simp length-set
+same-length c = c .before .before .write-u64 .kept .0 ∙ simp length-set
 
 returns : tie.Need-returns
 returns c =
-    let a = c .before .before .before .before .before .before in
-    c .before .before .copy .ensures ∙ step-written _ _ _ _ (omega arith) (a .pre)
+    let a = c .before .before .before .before .before in
+    c .before .before .write-u64 .ensures
+    ∙ step-written (now (a .args .out)) (a .args .at) (a .args .label) (a .args .masks) (a .fits .masks .fits) (a .pre)
 
 pub write-step-spec : {M : Type 1} → statement M
 write-step-spec =
@@ -41,8 +40,7 @@ write-step-spec =
     slice-write-out
     add-out
     slice-write-out-2
-    slice-aggregate-copy
-    add-copy
-    copy-requires
+    add-write-u64
+    write-u64-requires
     same-length
     returns)

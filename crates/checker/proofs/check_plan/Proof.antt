@@ -18,9 +18,6 @@ rules-of-requires c κs = search needs
 note-space-requires : tie.Need-note-space-requires
 note-space-requires c κs = search needs
 
-slice-aggregate-discover : tie.Need-slice-aggregate-discover
-slice-aggregate-discover c = search needs
-
 discover-requires : tie.Need-discover-requires
 discover-requires c κs =
     let rules = c .before .before .before .before .before in
@@ -36,19 +33,16 @@ enum-told c = search needs
 enum-known-n : tie.Need-enum-known-n
 enum-known-n c = search needs
 
-slice-aggregate-check-certificate : tie.Need-slice-aggregate-check-certificate
-slice-aggregate-check-certificate c = search needs
-
 check-certificate-requires : tie.Need-check-certificate-requires
 check-certificate-requires c κs =
-    let found = c .before .before .before .before .before .before .before .before .before in
+    let found = c .before .before .before .before .before .before .before .before in
     let rules = found .before .before .before .before .before .before in
     let start = rules .before .before .before in
     let p = start .args .plan in
     let of = planned-of p (rules .rules-of .result) (start .pre .1) (rules .rules-of .ensures) in (
       rules .rules-of .ensures .ruled,
       record { plan = planOf p; planned = of; holds = found .discover .ensures .0 .held _ (c .before .before .before .before .n .given .1) (planOf p) of },
-      omega (arith, notes-long (found .before .before .before .before .note-space .ensures), found .discover .kept .1 .1 .0),
+      omega (arith, notes-long (found .before .before .before .before .note-space .ensures), found .discover .ensures .1 .long),
     )
 
 same-length : tie.Need-same-length
@@ -56,7 +50,7 @@ same-length c = search needs
 
 returns : tie.Need-returns
 returns c =
-    let found = c .before .before .before .before .before in
+    let found = c .before .before .before .before in
     let rules = found .before .before .before .before .before .before in
     let start = rules .before .before .before in
     let p = start .args .plan in
@@ -68,13 +62,13 @@ same-length-2 c = search needs
 
 returns-2 : tie.Need-returns-2
 returns-2 c =
-    let call = c .before in
-    let found = c .before .before .before .before .before .before .before .before .before .before .before in
+    let call = c in
+    let found = c .before .before .before .before .before .before .before .before .before in
     let rules = found .before .before .before .before .before .before in
     let start = rules .before .before .before in
     let p = start .args .plan in
     let of = planned-of p (rules .rules-of .result) (start .pre .1) (rules .rules-of .ensures) in
-    let count = c .before .before .before .before .before .before .n .given .1 in (
+    let count = c .before .before .before .before .before .n .given .1 in (
       call .check-certificate .ensures .0 (planOf p) of (found .discover .ensures .0 .held _ count (planOf p) of)
           ∙ small (planOf p) (length (nodes (planOf p))) _ (start .args .s .now) (sym (ap sizeOf count) ∙ found .discover .ensures .0 .answer (planOf p) of),
       found .discover .ensures .0 .only,
@@ -86,11 +80,9 @@ check-plan-spec =
     (tie.spec
     rules-of-requires
     note-space-requires
-    slice-aggregate-discover
     discover-requires
     enum-told
     enum-known-n
-    slice-aggregate-check-certificate
     check-certificate-requires
     same-length
     returns

@@ -33,7 +33,7 @@ tested P r next m bs n parts planned holds read fraction count within =
     record {
       planned = planned;
       holds = holds;
-      read = read;
+      read = read .read;
       count = items-length (potentialIn bs) headSize potentialSize (parts .count) ∙ count;
       isP = refl;
       isQ = refl;
@@ -47,14 +47,14 @@ fraction-ok-requires c κs = search needs
 
 returns : tie.Need-returns
 returns c =
-    let a = c .before .before .before .before .before .before .args in (
+    let a = c .before .before .before .before .before .args in (
       λ P p h. bad-fraction P (certificateOf (a .s .now) (a .parts)) (sym (c .before .fraction-ok .ensures) ∙ not-true _ (c .if1 .taken)),
       only-refl,
     )
 
 returns-2 : tie.Need-returns-2
 returns-2 c =
-    let start = c .before .before .before .before .before .before .before .before in
+    let start = c .before .before .before .before .before .before .before in
     let a = start .args in
     let bs = a .s .now in
     let z = certificateOf bs (a .parts) in
@@ -69,7 +69,7 @@ within-limits-requires c κs = search needs
 
 returns-3 : tie.Need-returns-3
 returns-3 c =
-    let start = c .before .before .before .before .before .before .before .before .before .before in
+    let start = c .before .before .before .before .before .before .before .before .before in
     let a = start .args in
     let bs = a .s .now in
     let z = certificateOf bs (a .parts) in
@@ -83,7 +83,7 @@ returns-3 c =
 
 edges-hold-requires : tie.Need-edges-hold-requires
 edges-hold-requires c κs =
-    let start = c .before .before .before .before .before .before .before .before .before .before .before in
+    let start = c .before .before .before .before .before .before .before .before .before .before in
     let a = start .args in
     let bs = a .s .now in
     let z = certificateOf bs (a .parts) in
@@ -97,20 +97,17 @@ edges-hold-requires c κs =
       start .pre .3,
     )
 
-same-length : tie.Need-same-length
-same-length c = search needs
-
 returns-4 : tie.Need-returns-4
 returns-4 c =
-    let start = c .before .before .before .before .before .before .before .before .before .before .before .before .before .before .before in
+    let start = c .before .before .before .before .before .before .before .before .before .before .before .before in
     let a = start .args in
     let bs = a .s .now in
     let z = certificateOf bs (a .parts) in
-    let fraction = sym (c .before .before .before .before .before .before .before .before .before .before .fraction-ok .ensures) ∙ not-false _ (c .before .before .before .before .before .before .before .before .before .if1 .left) in
+    let fraction = sym (c .before .before .before .before .before .before .before .before .fraction-ok .ensures) ∙ not-false _ (c .before .before .before .before .before .before .before .if1 .left) in
     let size = items-length (potentialIn bs) headSize potentialSize (a .parts .count) in
-    let count : a .parts .count ≡ a .graph .n = c .before .before .before .before .before .before .before .if2 .left in
-    let within = sym (c .before .before .before .before .before .before .within-limits .ensures) ∙ not-false _ (c .before .before .before .before .before .if3 .left) in
-    let edges = c .before .before .before .edges-hold .ensures in (
+    let count : a .parts .count ≡ a .graph .n = c .before .before .before .before .before .if2 .left in
+    let within = sym (c .before .before .before .before .within-limits .ensures) ∙ not-false _ (c .before .before .before .if3 .left) in
+    let edges = c .before .edges-hold .ensures in (
       λ P p h. bad-edge P z fraction (size ∙ count ∙ sym (held-count (tasksIn (a .graph .rules)) (a .m .now) (a .graph .n) (nodes P) (h .nodes)))
           within (sym (not-true _ (c .if4 .taken)) ∙ edges .0 P z
           (tested P (a .graph .rules) (a .next .now) (a .m .now) bs (a .graph .n) (a .parts) p h (start .pre .2) fraction count within)),
@@ -120,20 +117,17 @@ returns-4 c =
 holds-requires : tie.Need-holds-requires
 holds-requires c κs = search needs
 
-same-length-2 : tie.Need-same-length-2
-same-length-2 c = search needs
-
 returns-5 : tie.Need-returns-5
 returns-5 c =
-    let start = c .before .before .before .before .before .before .before .before .before .before .before .before .before .before .before .before .before in
+    let start = c .before .before .before .before .before .before .before .before .before .before .before .before .before .before in
     let a = start .args in
     let bs = a .s .now in
     let z = certificateOf bs (a .parts) in
-    let fraction = sym (c .before .before .before .before .before .before .before .before .before .before .before .before .fraction-ok .ensures) ∙ not-false _ (c .before .before .before .before .before .before .before .before .before .before .before .if1 .left) in
+    let fraction = sym (c .before .before .before .before .before .before .before .before .before .before .fraction-ok .ensures) ∙ not-false _ (c .before .before .before .before .before .before .before .before .before .if1 .left) in
     let size = items-length (potentialIn bs) headSize potentialSize (a .parts .count) in
-    let count : a .parts .count ≡ a .graph .n = c .before .before .before .before .before .before .before .before .before .if2 .left in
-    let within = sym (c .before .before .before .before .before .before .before .before .within-limits .ensures) ∙ not-false _ (c .before .before .before .before .before .before .before .if3 .left) in
-    let edges = c .before .before .before .before .before .edges-hold .ensures in (
+    let count : a .parts .count ≡ a .graph .n = c .before .before .before .before .before .before .before .if2 .left in
+    let within = sym (c .before .before .before .before .before .before .within-limits .ensures) ∙ not-false _ (c .before .before .before .before .before .if3 .left) in
+    let edges = c .before .before .before .edges-hold .ensures in (
       λ P p h. bad-cycle P z fraction (size ∙ count ∙ sym (held-count (tasksIn (a .graph .rules)) (a .m .now) (a .graph .n) (nodes P) (h .nodes)))
           within (sym (not-false _ (c .before .before .if4 .left)) ∙ edges .0 P z
           (tested P (a .graph .rules) (a .next .now) (a .m .now) bs (a .graph .n) (a .parts) p h (start .pre .2) fraction count within))
@@ -143,23 +137,20 @@ returns-5 c =
 
 allowance-requires : tie.Need-allowance-requires
 allowance-requires c κs =
-    let start = c .before .before .before .before .before .before .before .before .before .before .before .before .before .before .before .before .before in
-    (start .pre .2, sym (c .before .before .before .before .before .before .before .before .within-limits .ensures) ∙ not-false _ (c .before .before .before .before .before .before .before .if3 .left))
-
-same-length-3 : tie.Need-same-length-3
-same-length-3 c = search needs
+    let start = c .before .before .before .before .before .before .before .before .before .before .before .before .before .before in
+    (start .pre .2, sym (c .before .before .before .before .before .before .within-limits .ensures) ∙ not-false _ (c .before .before .before .before .before .if3 .left))
 
 returns-6 : tie.Need-returns-6
 returns-6 c =
-    let start = c .before .before .before .before .before .before .before .before .before .before .before .before .before .before .before .before .before .before in
+    let start = c .before .before .before .before .before .before .before .before .before .before .before .before .before .before .before in
     let a = start .args in
     let bs = a .s .now in
     let z = certificateOf bs (a .parts) in
-    let fraction = sym (c .before .before .before .before .before .before .before .before .before .before .before .before .before .fraction-ok .ensures) ∙ not-false _ (c .before .before .before .before .before .before .before .before .before .before .before .before .if1 .left) in
+    let fraction = sym (c .before .before .before .before .before .before .before .before .before .before .before .fraction-ok .ensures) ∙ not-false _ (c .before .before .before .before .before .before .before .before .before .before .if1 .left) in
     let size = items-length (potentialIn bs) headSize potentialSize (a .parts .count) in
-    let count : a .parts .count ≡ a .graph .n = c .before .before .before .before .before .before .before .before .before .before .if2 .left in
-    let within = sym (c .before .before .before .before .before .before .before .before .before .within-limits .ensures) ∙ not-false _ (c .before .before .before .before .before .before .before .before .if3 .left) in
-    let edges = c .before .before .before .before .before .before .edges-hold .ensures in (
+    let count : a .parts .count ≡ a .graph .n = c .before .before .before .before .before .before .before .before .if2 .left in
+    let within = sym (c .before .before .before .before .before .before .before .within-limits .ensures) ∙ not-false _ (c .before .before .before .before .before .before .if3 .left) in
+    let edges = c .before .before .before .before .edges-hold .ensures in (
       λ P p h. (λ i. share (a .parts .p) (a .parts .q) ((sym count ∙ sym size) i) (c .allowance .ensures i))
           ∙ accepted P z fraction (size ∙ count ∙ sym (held-count (tasksIn (a .graph .rules)) (a .m .now) (a .graph .n) (nodes P) (h .nodes)))
           within (sym (not-false _ (c .before .before .before .if4 .left)) ∙ edges .0 P z
@@ -178,11 +169,8 @@ verdict-spec =
     within-limits-requires
     returns-3
     edges-hold-requires
-    same-length
     returns-4
     holds-requires
-    same-length-2
     returns-5
     allowance-requires
-    same-length-3
     returns-6)

@@ -29,13 +29,13 @@ loop-holds c = (omega arith, refl, λ P next n v es t. summed-start (t .along), 
 
 step-edge-requires : tie.Need-step-edge-requires Inv-loop μ-loop
 step-edge-requires c κs =
-    let start = c .before .before .before .before .before in
+    let start = c .before .before .before .before in
     (start .pre .0, start .pre .1, c .before .loop-test .taken, omega (arith, c .before .before .loop .inv .1, start .pre .2))
 
 -- the sums with one step more
 turn : (c : tie.After-step-edge Inv-loop μ-loop) →
     let l = c .before .before .before .loop in
-    let a = c .before .before .before .before .before .before .args in
+    let a = c .before .before .before .before .before .args in
     (P : Plan) (next : List ℕ) (n v : ℕ) (es : List Edge) → Turns P (a .rules) next (a .m .now) n (a .k) v es →
     Summed P (a .m .now) (a .k) v (l .i + 1) (l .kept + c .step-edge .result .kept) (l .ideal + c .step-edge .result .ideal)
 turn c P next n v es t =
@@ -48,43 +48,40 @@ small : (c : tie.After-step-edge Inv-loop μ-loop) →
     (l .kept + c .step-edge .result .kept ≤ (l .i + 1) * maxValue)
     × (l .ideal + c .step-edge .result .ideal ≤ (l .i + 1) * (maxTasks * maxValue))
 small c =
-    let g = c .before .before .before .before .before .before .pre .1 in
+    let g = c .before .before .before .before .before .pre .1 in
     summed-fits (sound-plan (g .plan) (g .turns .planned .sound)) (omega (arith, c .before .before .loop-test .taken))
     (turn c (g .plan) (g .next) (g .count) (g .node) (g .edges) (g .turns))
 
 add-kept : tie.Need-add-kept Inv-loop μ-loop
 add-kept c =
-    let call = c .before .before .before in
-    let few = call .before .before .before .before .before .before .pre .1 .few in
+    let call = c .before in
+    let few = call .before .before .before .before .before .pre .1 .few in
     record { fits = omega (arith, small call .0, call .before .before .loop-test .taken, few) }
 
 add-ideal : tie.Need-add-ideal Inv-loop μ-loop
 add-ideal c =
-    let call = c .before .before .before .before in
-    let few = call .before .before .before .before .before .before .pre .1 .few in
+    let call = c .before .before in
+    let few = call .before .before .before .before .before .pre .1 .few in
     record { fits = omega (arith, small call .1, call .before .before .loop-test .taken, few) }
 
 add-i : tie.Need-add-i Inv-loop μ-loop
 add-i c =
-    let call = c .before .before .before .before in
-    let few = call .before .before .before .before .before .before .pre .1 .few in
+    let call = c .before .before in
+    let few = call .before .before .before .before .before .pre .1 .few in
     record { fits = omega (arith, call .before .before .loop-test .taken, few) }
 
 loop-less : tie.Need-loop-less Inv-loop μ-loop
-loop-less c = omega (arith, c .before .before .before .before .before .before .loop-test .taken)
+loop-less c = omega (arith, c .before .before .before .before .loop-test .taken)
 
 loop-again : tie.Need-loop-again Inv-loop μ-loop
 loop-again c =
-    let call = c .before .before .before .before in
+    let call = c .before .before in
     let l = call .before .before .before .loop in (
       omega (arith, call .before .before .loop-test .taken),
-      call .step-edge .kept .1 .1 .1 .0 ∙ l .inv .1,
+      call .step-edge .ensures .1 .long ∙ l .inv .1,
       turn call,
       only-trans (l .inv .3) (call .step-edge .ensures .1),
     )
-
-same-length : tie.Need-same-length Inv-loop μ-loop
-same-length c = c .before .loop .inv .1
 
 returns : tie.Need-returns Inv-loop μ-loop
 returns c =
@@ -104,5 +101,4 @@ gains-spec =
     add-i
     loop-less
     loop-again
-    same-length
     returns)

@@ -27,46 +27,46 @@ loop-holds c = (omega arith, refl, refl, λ P next n v es t. written-start (t .a
 
 step-edge-requires : tie.Need-step-edge-requires Inv-loop μ-loop
 step-edge-requires c κs =
-    let start = c .before .before .before .before .before .before in
+    let start = c .before .before .before .before .before in
     (start .pre .0, start .pre .1, c .before .loop-test .taken, omega (arith, c .before .before .loop .inv .1, start .pre .2))
 
 mul-write-step : tie.Need-mul-write-step Inv-loop μ-loop
 mul-write-step c =
-    let call = c .before .before .before .before in
-    let few = call .before .before .before .before .before .before .before .pre .1 .few in
+    let call = c .before in
+    let few = call .before .before .before .before .before .before .pre .1 .few in
     record { fits = omega (arith, call .before .before .loop-test .taken, few) }
 
 add-write-step : tie.Need-add-write-step Inv-loop μ-loop
 add-write-step c =
-    let call = c .before .before .before .before in
-    let start = call .before .before .before .before .before .before .before in
+    let call = c .before in
+    let start = call .before .before .before .before .before .before in
     record { fits = omega (arith, call .before .before .loop-test .taken, start .pre .3, start .good) }
 
 write-step-requires : tie.Need-write-step-requires Inv-loop μ-loop
 write-step-requires c κs =
-    let call = c .before .before .before .before in
-    let start = call .before .before .before .before .before .before .before in
+    let call = c .before in
+    let start = call .before .before .before .before .before .before in
     omega (arith, call .before .before .loop-test .taken, call .before .before .before .loop .inv .2, start .pre .3)
 
 add-i : tie.Need-add-i Inv-loop μ-loop
 add-i c =
-    let call = c .before .before .before .before .before .before .before in
-    let few = call .before .before .before .before .before .before .before .pre .1 .few in
+    let call = c .before .before .before .before in
+    let few = call .before .before .before .before .before .before .pre .1 .few in
     record { fits = omega (arith, call .before .before .loop-test .taken, few) }
 
 loop-less : tie.Need-loop-less Inv-loop μ-loop
-loop-less c = omega (arith, c .before .before .before .before .before .before .before .before .before .loop-test .taken)
+loop-less c = omega (arith, c .before .before .before .before .before .before .loop-test .taken)
 
 loop-again : tie.Need-loop-again Inv-loop μ-loop
 loop-again c =
     let write = c .before .before .write-step in
-    let call = c .before .before .before .before .before .before .before in
+    let call = c .before .before .before .before in
     let l = call .before .before .before .loop in
-    let start = call .before .before .before .before .before .before .before in
+    let start = call .before .before .before .before .before .before in
     let a = start .args in
     let more = call .before .before .loop-test .taken in (
       omega (arith, more),
-      call .step-edge .kept .1 .1 .1 .0 ∙ l .inv .1,
+      call .step-edge .ensures .1 .long ∙ l .inv .1,
       write .kept .0 ∙ l .inv .2,
       λ P next n v es t.
           subst (Written P (a .m .now) (a .k) v (l .i + 1) (a .out .now) (a .at)) (sym (write .ensures))
@@ -75,10 +75,7 @@ loop-again c =
     )
 
 same-length : tie.Need-same-length Inv-loop μ-loop
-same-length c = c .before .loop .inv .1
-
-same-length-2 : tie.Need-same-length-2 Inv-loop μ-loop
-same-length-2 c = c .before .loop .inv .2
+same-length c = c .before .loop .inv .2
 
 returns : tie.Need-returns Inv-loop μ-loop
 returns c =
@@ -100,5 +97,4 @@ write-steps-spec =
     loop-less
     loop-again
     same-length
-    same-length-2
     returns)

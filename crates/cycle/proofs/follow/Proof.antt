@@ -3,11 +3,13 @@ use mathlib.Core.Path.{_≡_, refl, sym, ap, subst, _∙_}
 use mathlib.Core.Bool.{true≢false}
 use Prim.Native.Nat.{_-_, _*_, _≤_, _<_}
 use native.Mathlib.Omega.{arith}
-use lib.ListN.{length, drop}
+use lib.ListN.{drop}
 use borrow.Author.Needs.{needs}
 use borrow.Author.Tests.{not-true, not-false}
 use Rattle.model.specs.Check.{follow}
 use Rattle.model.specs.Limits.{maxTasks, maxValue, maxStates}
+use Rattle.model.specs.Masks.{maskCount}
+use Rattle.words.specs.Packed.{unpacked}
 use Rattle.certificate.specs.View.{stepSize, stepIn, stepAt, certificateOf}
 use Rattle.certificate.proofs.Runs.{items-length}
 use Rattle.certificate.proofs.Placed.{placed}
@@ -21,7 +23,7 @@ use Rattle.cycle.proofs.follow.Tie as tie
 
 abbrev Inv-loop : tie.InvT-loop
 Inv-loop next rules s parts from at₀ kept₀ ideal₀ j₀ at kept ideal j =
-    (j ≤ parts .steps) × Cells (tasksIn rules) cellCount (at .cells) × (at .state < maxStates)
+    (j ≤ parts .steps) × Cells (tasksIn rules) cellCount (at .cells) × (at .state < maxStates) × (at .taken < maskCount)
     × (kept ≤ j * maxValue) × (ideal ≤ j * (maxTasks * maxValue))
     × (follow (planBy rules next maxStates) (drop j (certificateOf s parts .steps)) (here (tasksIn rules) at kept ideal)
     ≡ follow (planBy rules next maxStates) (certificateOf s parts .steps) (here (tasksIn rules) at₀ kept₀ ideal₀))
@@ -30,7 +32,7 @@ abbrev μ-loop : tie.MeasureT-loop
 μ-loop next rules s parts from at₀ kept₀ ideal₀ j₀ at kept ideal j = parts .steps - j
 
 loop-holds : tie.Need-loop-holds Inv-loop μ-loop
-loop-holds c = let start = c .before in (omega arith, start .pre .1 .0, start .pre .1 .1, omega arith, omega arith, refl)
+loop-holds c = let start = c .before in (omega arith, start .pre .1 .0, start .pre .1 .1, start .pre .1 .2, omega arith, omega arith, refl)
 
 step-label-requires : tie.Need-step-label-requires Inv-loop μ-loop
 step-label-requires c κs = (c .before .before .before .before .pre .0 .2, omega (arith, c .if1 .taken))
@@ -42,15 +44,7 @@ edge-by-requires : tie.Need-edge-by-requires Inv-loop μ-loop
 edge-by-requires c κs =
     let start = c .before .before .before .before .before .before in
     let l = c .before .before .before .before .loop in
-    let bs = start .args .s .now in
-    let parts = start .args .parts in
-    let size = items-length (stepIn bs) (parts .from) stepSize (parts .steps) in (
-      start .pre .0 .0,
-      l .inv .1,
-      start .pre .0 .1,
-      l .inv .2,
-      ap length (c .step-masks .ensures) ∙ placed bs (certificateOf bs parts) (start .pre .0 .2) .full (l .j) (omega (arith, size, c .before .before .if1 .taken)),
-    )
+    (start .pre .0 .0, l .inv .1, start .pre .0 .1, l .inv .2, l .inv .3)
 
 lost-requires : tie.Need-lost-requires Inv-loop μ-loop
 lost-requires c κs = search needs
@@ -64,16 +58,16 @@ returns c =
     let bs = a .s .now in
     let ss = certificateOf bs (a .parts) .steps in
     let size = items-length (stepIn bs) (a .parts .from) stepSize (a .parts .steps) in
-    let named : record { label = call .before .before .step-label .result; masks = call .before .step-masks .result } ≡ stepAt ss (l .j) =
+    let named : record { label = call .before .before .step-label .result; masks = unpacked (call .before .step-masks .result) } ≡ stepAt ss (l .j) =
     λ i. record { label = call .before .before .step-label .ensures i; masks = call .before .step-masks .ensures i } in
     let gone = c .lost .ensures in
     record {
       reached =
           ap (reachedIn (tasksIn (a .rules))) gone
           ∙ sym (step-lost (planBy (a .rules) (a .next .now) maxStates) (tasksIn (a .rules)) ss (l .j) (omega (arith, size, call .before .before .before .if1 .taken)) (l .at) (l .kept) (l .ideal)
-          (record { label = call .before .before .step-label .result; masks = call .before .step-masks .result }) named (call .edge-by .result)
+          (record { label = call .before .before .step-label .result; masks = unpacked (call .before .step-masks .result) }) named (call .edge-by .result)
           (call .edge-by .ensures .edge) (not-true _ (c .before .if2 .taken)))
-          ∙ l .inv .5;
+          ∙ l .inv .6;
       absent = λ f. gone;
       cells = subst (λ (w : Walked). Cells (tasksIn (a .rules)) cellCount (w .at .cells)) (sym gone) (start .pre .1 .0);
     }
@@ -88,10 +82,10 @@ add-kept c =
     let start = call .before .before .before .before .before .before .before in
     let bs = start .args .s .now in
     let parts = start .args .parts in
-    let few = placed bs (certificateOf bs parts) (start .pre .0 .2) .fewSteps in
+    let few = placed bs (certificateOf bs parts) (start .pre .0 .2 .read) .fewSteps in
     let size = items-length (stepIn bs) (parts .from) stepSize (parts .steps) in
     let edge = call .edge-by .ensures in
-    record { fits = omega (arith, few, size, edge .kept, l .inv .3, call .before .before .before .if1 .taken) }
+    record { fits = omega (arith, few, size, edge .kept, l .inv .4, call .before .before .before .if1 .taken) }
 
 add-ideal : tie.Need-add-ideal Inv-loop μ-loop
 add-ideal c =
@@ -100,10 +94,10 @@ add-ideal c =
     let start = call .before .before .before .before .before .before .before in
     let bs = start .args .s .now in
     let parts = start .args .parts in
-    let few = placed bs (certificateOf bs parts) (start .pre .0 .2) .fewSteps in
+    let few = placed bs (certificateOf bs parts) (start .pre .0 .2 .read) .fewSteps in
     let size = items-length (stepIn bs) (parts .from) stepSize (parts .steps) in
     let edge = call .edge-by .ensures in
-    record { fits = omega (arith, few, size, edge .ideal, l .inv .4, call .before .before .before .if1 .taken) }
+    record { fits = omega (arith, few, size, edge .ideal, l .inv .5, call .before .before .before .if1 .taken) }
 
 add-j : tie.Need-add-j Inv-loop μ-loop
 add-j c =
@@ -112,7 +106,7 @@ add-j c =
     let start = call .before .before .before .before .before .before .before in
     let bs = start .args .s .now in
     let parts = start .args .parts in
-    let few = placed bs (certificateOf bs parts) (start .pre .0 .2) .fewSteps in
+    let few = placed bs (certificateOf bs parts) (start .pre .0 .2 .read) .fewSteps in
     let size = items-length (stepIn bs) (parts .from) stepSize (parts .steps) in
     record { fits = omega (arith, few, size, call .before .before .before .if1 .taken) }
 
@@ -130,17 +124,18 @@ loop-again c =
     let size = items-length (stepIn bs) (a .parts .from) stepSize (a .parts .steps) in
     let more = call .before .before .before .if1 .taken in
     let edge = call .edge-by .ensures in
-    let named : record { label = call .before .before .step-label .result; masks = call .before .step-masks .result } ≡ stepAt ss (l .j) =
+    let named : record { label = call .before .before .step-label .result; masks = unpacked (call .before .step-masks .result) } ≡ stepAt ss (l .j) =
     λ i. record { label = call .before .before .step-label .ensures i; masks = call .before .step-masks .ensures i } in (
       omega (arith, more),
       edge .cells,
       edge .state,
-      omega (arith, edge .kept, l .inv .3),
-      omega (arith, edge .ideal, l .inv .4),
+      edge .taken,
+      omega (arith, edge .kept, l .inv .4),
+      omega (arith, edge .ideal, l .inv .5),
       sym (step-taken (planBy (a .rules) (a .next .now) maxStates) (tasksIn (a .rules)) ss (l .j) (omega (arith, size, more)) (l .at) (l .kept) (l .ideal)
-          (record { label = call .before .before .step-label .result; masks = call .before .step-masks .result }) named (call .edge-by .result)
+          (record { label = call .before .before .step-label .result; masks = unpacked (call .before .step-masks .result) }) named (call .edge-by .result)
           (edge .edge) (not-false _ (c .before .before .before .if2 .left)))
-          ∙ l .inv .5,
+          ∙ l .inv .6,
     )
 
 returns-2 : tie.Need-returns-2 Inv-loop μ-loop
@@ -152,7 +147,7 @@ returns-2 c =
     let size = items-length (stepIn bs) (a .parts .from) stepSize (a .parts .steps) in
     record {
       reached =
-          sym (steps-done (planBy (a .rules) (a .next .now) maxStates) ss (l .j) (here (tasksIn (a .rules)) (l .at) (l .kept) (l .ideal)) (omega (arith, size, c .if1 .left))) ∙ l .inv .5;
+          sym (steps-done (planBy (a .rules) (a .next .now) maxStates) ss (l .j) (here (tasksIn (a .rules)) (l .at) (l .kept) (l .ideal)) (omega (arith, size, c .if1 .left))) ∙ l .inv .6;
       absent = λ f. absurd (true≢false f);
       cells = l .inv .1;
     }

@@ -17,7 +17,7 @@ use Rattle.store.specs.Store.{rowBytes}
 use Rattle.discovery.specs.Discovery.{nodeIn}
 use Rattle.discovery.proofs.Rows.{row-length}
 use Rattle.discovery.proofs.Held.{held-count, held-node}
-use Rattle.discovery.proofs.Answer.{node-state}
+use Rattle.discovery.proofs.Answer.{node-state, node-taken}
 use Rattle.cycle.proofs.Closing.{cycle-free, cycle-outside, cycle-lost, cycle-open, cycle-closed, same-end}
 use Rattle.cycle.proofs.holds.Statement.{statement}
 use Rattle.cycle.proofs.holds.Tie as tie
@@ -55,6 +55,8 @@ follow-requires c κs =
         subst (λ (u : Node). Cells (tasksIn (a .rules)) cellCount (u .cells)) (sym named) (held .holds .rows .cells (a .parts .node) below),
         subst (λ (u : Node). u .state < _) (sym named)
             (node-state (held .plan) (tasksIn (a .rules)) (a .m .now) (a .n) (held .holds) (held .planned .sound) (a .parts .node) below),
+        subst (λ (u : Node). u .taken < _) (sym named)
+            (node-taken (held .plan) (tasksIn (a .rules)) (a .m .now) (a .n) (held .holds) (held .planned .sound) (a .parts .node) below),
       ),
     )
 
@@ -96,7 +98,7 @@ returns-4 c =
     let end = c .before .before .before .row-of in
     let tested = c .before .same-row in
     let same =
-    same-end ts (a .m .now) (a .n) (start .pre .1 .holds .rows) (a .parts .node) below from (walked .at) named (call .follow .ensures .cells)
+    same-end ts (a .m .now) (a .n) (start .pre .1 .holds .rows) (a .parts .node) below from (walked .at) named (call .follow .ensures .cells) (omega (arith, call .follow .ok))
     (end .result) (end .ensures) (tested .result) (tested .ensures) in
     λ P p h. cycle-open P (certificateOf bs (a .parts)) recurs (omega (arith, below, held-count ts (a .m .now) (a .n) (nodes P) (h .nodes))) ts from
     (ap (nodeOf ts) named ∙ held-node ts (a .m .now) (a .n) (nodes P) (h .nodes) (a .parts .node) below) (call .follow .result) (call .follow .ensures .reached ∙ sym (planned-follow p _ _)) (not-false _ (c .before .before .before .before .if3 .left)) (same ∙ not-true _ (c .if4 .taken))
@@ -119,7 +121,7 @@ returns-5 c =
     let end = c .before .before .before .before .row-of in
     let tested = c .before .before .same-row in
     let same =
-    same-end ts (a .m .now) (a .n) (start .pre .1 .holds .rows) (a .parts .node) below from (walked .at) named (call .follow .ensures .cells)
+    same-end ts (a .m .now) (a .n) (start .pre .1 .holds .rows) (a .parts .node) below from (walked .at) named (call .follow .ensures .cells) (omega (arith, call .follow .ok))
     (end .result) (end .ensures) (tested .result) (tested .ensures) in
     λ P p h. c .is-tight .ensures ∙ cycle-closed P (certificateOf bs (a .parts)) recurs (omega (arith, below, held-count ts (a .m .now) (a .n) (nodes P) (h .nodes))) ts from
     (ap (nodeOf ts) named ∙ held-node ts (a .m .now) (a .n) (nodes P) (h .nodes) (a .parts .node) below) (call .follow .result) (call .follow .ensures .reached ∙ sym (planned-follow p _ _)) (not-false _ (c .before .before .before .before .before .if3 .left)) (same ∙ not-false _ (c .before .if4 .left))

@@ -1,4 +1,5 @@
 -- `discovery::add_node` meets its contract: the row is found or appended. Assumes nothing.
+use native.Mathlib.Omega.{arith}
 use borrow.Author.Needs.{needs}
 use Rattle.store.specs.declared.Found.the-variants.{Full, At}
 use Rattle.discovery.proofs.Nodes.{adds-answer}
@@ -23,8 +24,9 @@ same-length c = search needs
 returns : tie.Need-returns
 returns c =
     let call = c .before .before .before .before in
-    let a = call .before .before .before .before .before .args in
-    adds-answer (a .node) (a .m .now) (call .find-or-append .last .0) (a .n)
+    let start = call .before .before .before .before .before in
+    let a = start .args in
+    adds-answer (a .node) (omega (arith, start .good)) (a .m .now) (call .find-or-append .last .0) (a .n)
     (call .before .before .before .row-of .result) (call .before .before .before .row-of .ensures)
     (call .find-or-append .result) Full (call .find-or-append .ensures) (c .enum-told .given .1)
 
@@ -34,8 +36,9 @@ same-length-2 c = search needs
 returns-2 : tie.Need-returns-2
 returns-2 c =
     let call = c .before .before .before .before .before in
-    let a = call .before .before .before .before .before .args in
-    adds-answer (a .node) (a .m .now) (call .find-or-append .last .0) (a .n)
+    let start = call .before .before .before .before .before in
+    let a = start .args in
+    adds-answer (a .node) (omega (arith, start .good)) (a .m .now) (call .find-or-append .last .0) (a .n)
     (call .before .before .before .row-of .result) (call .before .before .before .row-of .ensures)
     (call .find-or-append .result) (At _ _) (call .find-or-append .ensures) (c .before .count .given .1)
 

@@ -17,17 +17,17 @@ abbrev μ-loop : tie.MeasureT-loop
 
 loop-holds : tie.Need-loop-holds Inv-loop μ-loop
 loop-holds c =
-    let start = c .before .before in
+    let start = c .before in
     let a = start .args in
     (omega arith, start .pre .0 .index .few, refl, added-none (a .cells) (a .state) (a .notes .now) (a .m .now) (a .n) (start .pre .0))
 
 noted-pattern-requires : tie.Need-noted-pattern-requires Inv-loop μ-loop
-noted-pattern-requires c κs = (c .before .before .before .before .pre .1, omega arith)
+noted-pattern-requires c κs = (c .before .before .before .pre .1, omega arith)
 
 add-node-requires : tie.Need-add-node-requires Inv-loop μ-loop
 add-node-requires c κs =
     let turn = c .before .before .before .loop .inv in
-    (c .before .before .before .before .before .before .pre .2, turn .3 .stored (turn .1))
+    (c .before .before .before .before .before .pre .2, turn .3 .stored (turn .1))
 
 same-length : tie.Need-same-length Inv-loop μ-loop
 same-length c = c .before .before .before .add-node .kept .0 ∙ c .before .before .before .before .before .before .before .loop .inv .2
@@ -35,7 +35,7 @@ same-length c = c .before .before .before .add-node .kept .0 ∙ c .before .befo
 returns : tie.Need-returns Inv-loop μ-loop
 returns c =
     let turn = c .before .before .before .before .before .before in
-    let a = turn .before .before .before .before .args in
+    let a = turn .before .before .before .args in
     let l = turn .before .loop in
     let one = c .before .before .before .add-node in
     let named = c .before .before .before .before .before .noted-pattern in
@@ -52,7 +52,7 @@ loop-less c = omega arith
 loop-again : tie.Need-loop-again Inv-loop μ-loop
 loop-again c =
     let turn = c .before .before .before .before .before .before in
-    let a = turn .before .before .before .before .args in
+    let a = turn .before .before .before .args in
     let l = turn .before .loop in
     let one = c .before .before .before .add-node in
     let named = c .before .before .before .before .before .noted-pattern in (
@@ -68,7 +68,7 @@ same-length-2 c = c .before .loop .inv .2
 
 returns-2 : tie.Need-returns-2 Inv-loop μ-loop
 returns-2 c =
-    let a = c .before .before .before .before .args in
+    let a = c .before .before .before .args in
     let l = c .before .loop in
     let all : l .k ≡ a .count = omega arith in
     subst (λ (k : ℕ). Added (a .cells) (a .state) (a .notes .now) (a .m .now) (a .n) k (l .m) (l .known)) all (l .inv .3)

@@ -26,7 +26,7 @@ explore-all-requires c κs =
     let added = c .before .before .before .before in
     let named = added .before .before in
     let cleared = named .before .before .before in
-    let start = cleared .before .before .before .before in
+    let start = cleared .before .before .before in
     let a = start .args in (
       start .pre .0 .0,
       start .pre .0 .1,
@@ -38,16 +38,13 @@ explore-all-requires c κs =
 same-length : tie.Need-same-length
 same-length c = search needs
 
-same-length-2 : tie.Need-same-length-2
-same-length-2 c = search needs
-
 returns : tie.Need-returns
 returns c =
-    let call = c .before .before .before .before .before in
+    let call = c .before .before .before in
     let added = call .before .before .before .before .before in
     let named = added .before .before in
     let cleared = named .before .before .before in
-    let start = cleared .before .before .before .before in
+    let start = cleared .before .before .before in
     let a = start .args in
     let begin =
     begun (a .rules) (named .start .result) (named .start .ensures) (cleared .clear-index .last .0) (added .add-node .last .0) (added .add-node .result)
@@ -57,19 +54,16 @@ returns c =
       call .explore-all .ensures .1,
     )
 
-same-length-3 : tie.Need-same-length-3
-same-length-3 c = search needs
-
-same-length-4 : tie.Need-same-length-4
-same-length-4 c = search needs
+same-length-2 : tie.Need-same-length-2
+same-length-2 c = search needs
 
 returns-2 : tie.Need-returns-2
 returns-2 c =
-    let call = c .before .before .before .before .before in
+    let call = c .before .before .before in
     let added = call .before .before .before .before .before in
     let named = added .before .before in
     let cleared = named .before .before .before in
-    let start = cleared .before .before .before .before in
+    let start = cleared .before .before .before in
     let a = start .args in
     let begin =
     begun (a .rules) (named .start .result) (named .start .ensures) (cleared .clear-index .last .0) (added .add-node .last .0) (added .add-node .result)
@@ -88,8 +82,6 @@ discover-spec =
     add-node-requires
     explore-all-requires
     same-length
-    same-length-2
     returns
-    same-length-3
-    same-length-4
+    same-length-2
     returns-2)

@@ -24,23 +24,23 @@ abbrev μ-loop : tie.MeasureT-loop
 
 cast-labels : tie.Need-cast-labels Inv-loop μ-loop
 cast-labels c =
-    let rules = c .before .before .before .pre .0 .0 in
+    let rules = c .before .before .pre .0 .0 in
     record { fits = omega (arith, rules .size, rules .tasks .count) }
 
 shl-labels : tie.Need-shl-labels Inv-loop μ-loop
 shl-labels c =
-    let rules = c .before .before .before .pre .0 .0 in
+    let rules = c .before .before .pre .0 .0 in
     omega (arith, rules .size, rules .tasks .count)
 
 loop-holds : tie.Need-loop-holds Inv-loop μ-loop
 loop-holds c =
-    let start = c .before .before .before in
+    let start = c .before .before in
     let a = start .args in
     (omega arith, start .pre .1 .0 .index .few, refl, refl, explored-none (a .rules) (a .m .now) (a .n) (start .pre .1 .0), only-refl)
 
 follow-label-requires : tie.Need-follow-label-requires Inv-loop μ-loop
 follow-label-requires c κs =
-    let start = c .before .before .before .before .before .before .before in
+    let start = c .before .before .before .before .before .before in
     let a = start .args in
     let l = c .before .before .before .loop in
     let es = edgesBelow (a .next .now) (nodeOf (tasksIn (a .rules)) (a .node)) (l .label) in (
@@ -53,19 +53,14 @@ follow-label-requires c κs =
 
 same-length : tie.Need-same-length Inv-loop μ-loop
 same-length c =
-    let call = c .before .before .before .before .before in
-    call .follow-label .kept .1 .1 .1 .0 ∙ call .before .before .before .before .loop .inv .2
-
-same-length-2 : tie.Need-same-length-2 Inv-loop μ-loop
-same-length-2 c =
-    let call = c .before .before .before .before .before in
+    let call = c .before .before .before in
     call .follow-label .kept .1 .1 .1 .1 .0 ∙ call .before .before .before .before .loop .inv .3
 
 returns : tie.Need-returns Inv-loop μ-loop
 returns c =
-    let call = c .before .before .before .before .before in
+    let call = c .before .before .before in
     let l = call .before .before .before .before .loop in
-    let start = call .before .before .before .before .before .before .before .before in
+    let start = call .before .before .before .before .before .before .before in
     let a = start .args in
     let u = nodeOf (tasksIn (a .rules)) (a .node) in
     let after = call .follow-label .last .1 .1 .1 .1 .0 in
@@ -84,29 +79,26 @@ loop-less c = omega arith
 
 loop-again : tie.Need-loop-again Inv-loop μ-loop
 loop-again c =
-    let call = c .before .before .before .before .before in
+    let call = c .before .before .before in
     let l = call .before .before .before .before .loop in
-    let start = call .before .before .before .before .before .before .before .before in
+    let start = call .before .before .before .before .before .before .before in
     let a = start .args in
     let u = nodeOf (tasksIn (a .rules)) (a .node) in
     let after = call .follow-label .last .1 .1 .1 .1 .0 in (
       omega arith,
       c .if1 .left,
-      call .follow-label .kept .1 .1 .1 .0 ∙ l .inv .2,
+      call .follow-label .ensures .1 .long ∙ l .inv .2,
       call .follow-label .kept .1 .1 .1 .1 .0 ∙ l .inv .3,
       label-more (a .rules) (a .next .now) u (a .m .now) (a .n) (l .label) (l .m) (l .known) (l .inv .1) (l .inv .4) after (call .follow-label .result) (call .follow-label .ensures .0),
       only-trans (l .inv .5) (call .follow-label .ensures .1),
     )
 
-same-length-3 : tie.Need-same-length-3 Inv-loop μ-loop
-same-length-3 c = c .before .loop .inv .2
-
-same-length-4 : tie.Need-same-length-4 Inv-loop μ-loop
-same-length-4 c = c .before .loop .inv .3
+same-length-2 : tie.Need-same-length-2 Inv-loop μ-loop
+same-length-2 c = c .before .loop .inv .3
 
 returns-2 : tie.Need-returns-2 Inv-loop μ-loop
 returns-2 c =
-    let start = c .before .before .before .before .before in
+    let start = c .before .before .before .before in
     let a = start .args in
     let l = c .before .loop in
     let shifted = labels-shifted (a .rules .count) (omega (arith, start .pre .0 .0 .size, start .pre .0 .0 .tasks .count)) in
@@ -127,11 +119,9 @@ explore-node-spec =
     loop-holds
     follow-label-requires
     same-length
-    same-length-2
     returns
     add-label
     loop-less
     loop-again
-    same-length-3
-    same-length-4
+    same-length-2
     returns-2)

@@ -21,7 +21,7 @@ next-state-requires c κs = search needs
 
 returns : tie.Need-returns
 returns c =
-    let start = c .before .before .before .before .before in
+    let start = c .before .before .before .before in
     let a = start .args in
     let u = nodeOf (tasksIn (a .rules)) (a .from .node) in (
       explored-same (a .rules) (λ P. []) (edgesBy (a .next .now) u (a .from .label)) (a .m .now) (a .n) (a .m .now) (a .n)
@@ -39,14 +39,11 @@ explore-label-requires c κs = search needs
 same-length : tie.Need-same-length
 same-length c = search needs
 
-same-length-2 : tie.Need-same-length-2
-same-length-2 c = search needs
-
 returns-2 : tie.Need-returns-2
 returns-2 c =
-    let call = c .before .before .before .before in
+    let call = c .before .before in
     let read = call .before .before .before .before in
-    let start = read .before .before .before .before in
+    let start = read .before .before .before in
     let a = start .args in
     let u = nodeOf (tasksIn (a .rules)) (a .from .node) in
     let to = read .next-state .result in
@@ -67,5 +64,4 @@ follow-label-spec =
     sub-explore-label
     explore-label-requires
     same-length
-    same-length-2
     returns-2)

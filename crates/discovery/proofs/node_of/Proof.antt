@@ -6,7 +6,7 @@ use borrow.Author.Needs.{needs}
 use Rattle.model.specs.Bytes.{part}
 use Rattle.words.proofs.Memory.{overwrite-all, part-length}
 use Rattle.policy.specs.View.{cellCount}
-use Rattle.discovery.specs.Discovery.{takenAt, stateAt}
+use Rattle.discovery.specs.Discovery.{stateAt}
 use Rattle.discovery.proofs.node_of.Statement.{statement}
 use Rattle.discovery.proofs.node_of.Tie as tie
 
@@ -19,19 +19,22 @@ slice-aggregate-copy-2 c = search needs
 copy-requires : tie.Need-copy-requires
 copy-requires c κs = search needs
 
-array-read-t12 : tie.Need-array-read-t12
-array-read-t12 c = search needs
+slice-aggregate-read-u16 : tie.Need-slice-aggregate-read-u16
+slice-aggregate-read-u16 c = search needs
+
+read-u16-requires : tie.Need-read-u16-requires
+read-u16-requires c κs = search needs
 
 array-read-t15 : tie.Need-array-read-t15
 array-read-t15 c = search needs
 
 returns : tie.Need-returns
 returns c =
-    let start = c .before .before .before .before in
+    let start = c .before .before .before .before .before .before in
     let row = start .args .t1 in
     let cells =
-    c .before .copy .ensures ∙ overwrite-all _ (part row 0 cellCount) (part-length row 0 cellCount (omega (arith, start .pre))) in
-    λ i. record { cells = cells i; taken = getD row takenAt 0; state = getD row stateAt 0 }
+    c .before .before .before .copy .ensures ∙ overwrite-all _ (part row 0 cellCount) (part-length row 0 cellCount (omega (arith, start .pre))) in
+    λ i. record { cells = cells i; taken = c .read-u16 .ensures i; state = getD row stateAt 0 }
 
 pub node-of-spec : {M : Type 1} → statement M
 node-of-spec =
@@ -40,6 +43,7 @@ node-of-spec =
     slice-aggregate-copy
     slice-aggregate-copy-2
     copy-requires
-    array-read-t12
+    slice-aggregate-read-u16
+    read-u16-requires
     array-read-t15
     returns)

@@ -28,7 +28,7 @@ loop-holds c = (omega arith, refl, refl, λ P s. tried-none (s .search), only-re
 relax-node-requires : tie.Need-relax-node-requires Inv-loop μ-loop
 relax-node-requires c κs =
     let l = c .before .before .before .loop in
-    let start = c .before .before .before .before .before .before in
+    let start = c .before .before .before .before .before in
     let seeking = start .pre .1 in (
       start .pre .0,
       record { plan = seeking .plan; sought = sought-after (l .inv .3 (seeking .plan) (seeking .sought) .advance) refl (seeking .sought) },
@@ -38,17 +38,12 @@ relax-node-requires c κs =
 
 same-length : tie.Need-same-length Inv-loop μ-loop
 same-length c =
-    let call = c .before .before .before .before .before .before in
-    call .relax-node .kept .1 .1 .1 .1 .0 ∙ call .before .before .before .before .loop .inv .1
-
-same-length-2 : tie.Need-same-length-2 Inv-loop μ-loop
-same-length-2 c =
-    let call = c .before .before .before .before .before .before in
+    let call = c .before .before .before .before in
     call .relax-node .kept .1 .1 .1 .1 .1 .0 ∙ call .before .before .before .before .loop .inv .2
 
 returns : tie.Need-returns Inv-loop μ-loop
 returns c =
-    let call = c .before .before .before .before .before .before in
+    let call = c .before .before .before .before in
     let l = call .before .before .before .before .loop in (
       λ P s.
           let b = l .inv .3 P s in
@@ -63,7 +58,7 @@ returns c =
 
 add-u : tie.Need-add-u Inv-loop μ-loop
 add-u c =
-    let start = c .before .before .before .before .before .before .before .before .before .before .before .before .before .before in
+    let start = c .before .before .before .before .before .before .before .before .before .before .before in
     record { fits = omega (arith, start .pre .1 .sought .priced .holds .rows .index .few) }
 
 loop-less : tie.Need-loop-less Inv-loop μ-loop
@@ -71,11 +66,11 @@ loop-less c = omega arith
 
 loop-again : tie.Need-loop-again Inv-loop μ-loop
 loop-again c =
-    let call = c .before .before .before .before .before .before .before in
+    let call = c .before .before .before .before .before in
     let head = call .before .before .before in
     let l = head .before .loop in (
       omega arith,
-      call .relax-node .kept .1 .1 .1 .1 .0 ∙ l .inv .1,
+      call .relax-node .ensures .1 .long ∙ l .inv .1,
       call .relax-node .kept .1 .1 .1 .1 .1 .0 ∙ l .inv .2,
       λ P s.
           let b = l .inv .3 P s in
@@ -83,16 +78,13 @@ loop-again c =
       only-trans (l .inv .4) (call .relax-node .ensures .1),
     )
 
-same-length-3 : tie.Need-same-length-3 Inv-loop μ-loop
-same-length-3 c = c .before .loop .inv .1
-
-same-length-4 : tie.Need-same-length-4 Inv-loop μ-loop
-same-length-4 c = c .before .loop .inv .2
+same-length-2 : tie.Need-same-length-2 Inv-loop μ-loop
+same-length-2 c = c .before .loop .inv .2
 
 returns-2 : tie.Need-returns-2 Inv-loop μ-loop
 returns-2 c =
     let l = c .before .loop in
-    let all : l .u ≡ c .before .before .before .before .args .prices .n = omega (arith, l .inv .0, c .loop-test .left) in
+    let all : l .u ≡ c .before .before .before .args .prices .n = omega (arith, l .inv .0, c .loop-test .left) in
     (λ P s. tried-all (l .inv .3 P s) all (nodes-count (s .priced)), l .inv .4)
 
 pub pass-spec : {M : Type 1} → statement M
@@ -104,11 +96,9 @@ pass-spec =
     loop-holds
     relax-node-requires
     same-length
-    same-length-2
     returns
     add-u
     loop-less
     loop-again
-    same-length-3
-    same-length-4
+    same-length-2
     returns-2)

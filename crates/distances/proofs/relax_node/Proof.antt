@@ -35,7 +35,7 @@ abbrev μ-loop : tie.MeasureT-loop
 
 link-to-requires : tie.Need-link-to-requires Inv-loop μ-loop
 link-to-requires c κs =
-    let start = c .before .before .before in
+    let start = c .before .before in
     let priced = start .pre .1 .sought .priced in
     (omega (arith, start .pre .2, priced .holds .rows .index .few), priced .room)
 
@@ -46,7 +46,7 @@ returns : tie.Need-returns Inv-loop μ-loop
 returns c =
     let call = c .before .before in (
       λ P s.
-          let start = call .before .before .before .before in
+          let start = call .before .before .before in
           let idle : stateIn (start .args .m .now) .waiting (start .args .u) ≡ false =
           ap (λ (l : Link). eqb (l .mark) waiting) (sym (call .link-to .ensures)) ∙ ne-eqb (call .link-to .result .mark) waiting (c .if1 .taken) in record {
             advance = advance-none (s .search);
@@ -58,25 +58,25 @@ returns c =
 
 row-requires : tie.Need-row-requires Inv-loop μ-loop
 row-requires c κs =
-    let start = c .before .before .before .before .before .before .before in
+    let start = c .before .before .before .before .before .before in
     let index = start .pre .1 .sought .priced .holds .rows .index in
     (omega (arith, start .pre .2, index .few), index .room)
 
 node-of-requires : tie.Need-node-of-requires Inv-loop μ-loop
 node-of-requires c κs =
-    let start = c .before .before .before .before .before .before .before .before in
+    let start = c .before .before .before .before .before .before .before in
     let index = start .pre .1 .sought .priced .holds .rows .index in
     ap length (c .row .ensures)
     ∙ part-length (start .args .m .now) (rowBytes * start .args .u) rowBytes (omega (arith, start .pre .2, index .few, index .room))
 
 cast-labels : tie.Need-cast-labels Inv-loop μ-loop
 cast-labels c =
-    let rules = c .before .before .before .before .before .before .before .before .before .before .pre .0 in
+    let rules = c .before .before .before .before .before .before .before .before .before .pre .0 in
     record { fits = omega (arith, rules .size, rules .tasks .count) }
 
 shl-labels : tie.Need-shl-labels Inv-loop μ-loop
 shl-labels c =
-    let rules = c .before .before .before .before .before .before .before .before .before .before .pre .0 in
+    let rules = c .before .before .before .before .before .before .before .before .before .pre .0 in
     omega (arith, rules .size, rules .tasks .count)
 
 loop-holds : tie.Need-loop-holds Inv-loop μ-loop
@@ -84,7 +84,7 @@ loop-holds c = (omega arith, refl, refl, λ P s. below-none (s .search), only-re
 
 -- the node waits, so it is known
 known : (c : tie.At-loop Inv-loop μ-loop) →
-    let start = c .before .before .before .before .before .before .before .before .before .before .before in
+    let start = c .before .before .before .before .before .before .before .before .before .before in
     stateIn (start .args .m .now) .known (start .args .u) ≡ true
 known c =
     let test = c .before .before .before .before .before in
@@ -93,7 +93,7 @@ known c =
 relax-label-requires : tie.Need-relax-label-requires Inv-loop μ-loop
 relax-label-requires c κs =
     let head = c .before .before .before in
-    let start = head .before .before .before .before .before .before .before .before .before .before .before in
+    let start = head .before .before .before .before .before .before .before .before .before .before in
     let seeking = start .pre .1 in
     let b = head .loop .inv .3 (seeking .plan) (seeking .sought) in
     let few = seeking .sought .priced .holds .rows .index .few in
@@ -107,17 +107,12 @@ relax-label-requires c κs =
 
 same-length-2 : tie.Need-same-length-2 Inv-loop μ-loop
 same-length-2 c =
-    let call = c .before .before .before .before .before .before in
-    call .relax-label .kept .1 .1 .1 .1 .0 ∙ call .before .before .before .before .loop .inv .1
-
-same-length-3 : tie.Need-same-length-3 Inv-loop μ-loop
-same-length-3 c =
-    let call = c .before .before .before .before .before .before in
+    let call = c .before .before .before .before in
     call .relax-label .kept .1 .1 .1 .1 .1 .0 ∙ call .before .before .before .before .loop .inv .2
 
 returns-2 : tie.Need-returns-2 Inv-loop μ-loop
 returns-2 c =
-    let call = c .before .before .before .before .before .before in
+    let call = c .before .before .before .before in
     let l = call .before .before .before .before .loop in (
       λ P s.
           let b = l .inv .3 P s in
@@ -138,10 +133,10 @@ loop-less c = omega arith
 
 loop-again : tie.Need-loop-again Inv-loop μ-loop
 loop-again c =
-    let call = c .before .before .before .before .before .before .before in
+    let call = c .before .before .before .before .before in
     let l = call .before .before .before .before .loop in (
       omega arith,
-      call .relax-label .kept .1 .1 .1 .1 .0 ∙ l .inv .1,
+      call .relax-label .ensures .1 .long ∙ l .inv .1,
       call .relax-label .kept .1 .1 .1 .1 .1 .0 ∙ l .inv .2,
       λ P s.
           let b = l .inv .3 P s in
@@ -152,15 +147,12 @@ loop-again c =
 set-mark-requires : tie.Need-set-mark-requires Inv-loop μ-loop
 set-mark-requires c κs =
     let head = c .before .before in
-    let start = head .before .before .before .before .before .before .before .before .before .before .before in
+    let start = head .before .before .before .before .before .before .before .before .before .before in
     let priced = start .pre .1 .sought .priced in
     (omega (arith, start .pre .2, priced .holds .rows .index .few), omega (arith, head .loop .inv .2, priced .room))
 
-same-length-4 : tie.Need-same-length-4 Inv-loop μ-loop
-same-length-4 c = c .before .before .before .before .before .loop .inv .1
-
-same-length-5 : tie.Need-same-length-5 Inv-loop μ-loop
-same-length-5 c =
+same-length-3 : tie.Need-same-length-3 Inv-loop μ-loop
+same-length-3 c =
     let call = c .before .before in
     call .set-mark .kept .0 ∙ call .before .before .before .loop .inv .2
 
@@ -169,7 +161,7 @@ returns-3 c =
     let call = c .before .before in
     let head = call .before .before .before in
     let l = head .loop in
-    let start = head .before .before .before .before .before .before .before .before .before .before .before in
+    let start = head .before .before .before .before .before .before .before .before .before .before in
     let rules = start .args .rules in
     let labels : (1 * 2 ^ rules .count) % 256 ≡ 2 ^ rules .count =
     labels-shifted (rules .count) (omega (arith, start .pre .0 .size, start .pre .0 .tasks .count)) in
@@ -194,12 +186,10 @@ relax-node-spec =
     loop-holds
     relax-label-requires
     same-length-2
-    same-length-3
     returns-2
     add-label
     loop-less
     loop-again
     set-mark-requires
-    same-length-4
-    same-length-5
+    same-length-3
     returns-3)

@@ -22,43 +22,43 @@ use Rattle.distances.proofs.relax_outcome.Statement.{statement}
 use Rattle.distances.proofs.relax_outcome.Tie as tie
 
 noted-pattern-requires : tie.Need-noted-pattern-requires
-noted-pattern-requires c κs = let s = c .before .before in (s .pre .0 .offers .readable, s .pre .1)
+noted-pattern-requires c κs = let s = c .before in (s .pre .0 .offers .readable, s .pre .1)
 
 cast-best-score : tie.Need-cast-best-score
 cast-best-score c = search needs
 
 best-score-requires : tie.Need-best-score-requires
-best-score-requires c κs = let o = c .before .before .before .pre .0 .offers in (o .readable .room, omega (arith, c .noted-pattern .ensures .1))
+best-score-requires c κs = let o = c .before .before .pre .0 .offers in (o .readable .room, omega (arith, c .noted-pattern .ensures .1))
 
 -- the score that is read
 score : (c : tie.After-best-score) →
-    let a = c .before .before .before .before .args in
+    let a = c .before .before .before .args in
     c .best-score .result ≡ scoreIn (a .notes .now) (a .out .count) (patternIn (a .notes .now) (a .k))
 score c =
-    let a = c .before .before .before .before .args in
+    let a = c .before .before .before .args in
     c .best-score .ensures (a .out .count) ∙ ap (scoreIn (a .notes .now) (a .out .count)) (c .before .noted-pattern .ensures .0)
 
 sub-gain : tie.Need-sub-gain
-sub-gain c = let s = c .before .before .before .before in omega (arith, score c, s .pre .0 .offers .noted (s .args .k) (s .pre .1))
+sub-gain c = let s = c .before .before .before in omega (arith, score c, s .pre .0 .offers .noted (s .args .k) (s .pre .1))
 
 times-requires : tie.Need-times-requires
-times-requires c κs = let o = c .before .before .before .before .pre .0 .offers in omega (arith, o .fitsP)
+times-requires c κs = let o = c .before .before .before .pre .0 .offers in omega (arith, o .fitsP)
 
 -- the distance, before it is stored
 distance : (c : tie.After-times) →
-    let s = c .before .before .before .before .before in
+    let s = c .before .before .before .before in
     let a = s .args in
     toZ w64 (ofZ w64 (a .high)) -ℤ toZ w64 (ofZ w64 (c .times .result))
     ≡ a .high -ℤ pos (a .prices .p * gainIn (a .notes .now) (a .out .count) (patternIn (a .notes .now) (a .k)))
 distance c =
-    let s = c .before .before .before .before .before in
+    let s = c .before .before .before .before in
     let a = s .args in
     ap₂ (λ y z. y -ℤ z) (toZ-ofZ {w = w64} (s .fits .high))
     (toZ-ofZ {w = w64} (record { sfits = c .times .ok }) ∙ c .times .ensures ∙ ap (λ (x : ℕ). pos (a .prices .p * (x - 1))) (score (c .before)))
 
 sub-z : tie.Need-sub-z
 sub-z c =
-    let s = c .before .before .before .before .before in
+    let s = c .before .before .before .before in
     let a = s .args in
     let o = s .pre .0 .offers in
     let g = gainIn (a .notes .now) (a .out .count) (patternIn (a .notes .now) (a .k)) in
@@ -74,33 +74,33 @@ row-of-requires c κs = search needs
 
 find-requires : tie.Need-find-requires
 find-requires c κs =
-    let s = c .before .before .before .before .before .before .before .before .before in
+    let s = c .before .before .before .before .before .before .before .before in
     let o = s .pre .0 .offers in
     let to = withPattern (s .args .out .cells) (s .args .out .state) (c .before .before .before .before .before .before .noted-pattern .result) in
     (o .index, o .distinct, ap length (c .before .before .row-of .ensures) ∙ row-length to (o .size))
 
 -- what is found is the number of the pattern's node
 number : (c : tie.After-find) →
-    let a = c .before .before .before .before .before .before .before .before .before .before .args in
+    let a = c .before .before .before .before .before .before .before .before .before .args in
     c .find .result ≡ targetOf (a .prices) (a .m .now) (a .notes .now) (a .out) (a .k)
 number c =
-    let a = c .before .before .before .before .before .before .before .before .before .before .args in
+    let a = c .before .before .before .before .before .before .before .before .before .args in
     c .find .ensures ∙ ap (indexIn (rowsIn (a .m .now) (a .prices .n)))
     (c .before .before .before .row-of .ensures ∙ ap (λ (p : ℕ). rowOf (withPattern (a .out .cells) (a .out .state) p)) (c .before .before .before .before .before .before .before .noted-pattern .ensures .0))
 
 -- and what is computed its distance
 at : (c : tie.After-times) →
-    let a = c .before .before .before .before .before .args in
+    let a = c .before .before .before .before .args in
     toZ w64 (ofZ w64 (toZ w64 (ofZ w64 (a .high)) -ℤ toZ w64 (ofZ w64 (c .times .result)))) ≡ distanceBy (a .prices) (a .m .now) (a .notes .now) (a .out) (a .k)
 at c =
-    let s = c .before .before .before .before .before in
+    let s = c .before .before .before .before in
     let a = s .args in
     let charge = a .prices .p * gainIn (a .notes .now) (a .out .count) (patternIn (a .notes .now) (a .k)) in
     toZ-ofZ {w = w64} (sub-z c) ∙ distance c ∙ ap (λ z. z -ℤ pos charge) (s .pre .2) ∙ weight-order (stateIn (a .m .now) .dist (a .out .number)) (a .prices .q * a .out .kept) charge
 
 relax-requires : tie.Need-relax-requires
 relax-requires c κs =
-    let s = c .before .before .before .before .before .before .before .before .before .before .before in
+    let s = c .before .before .before .before .before .before .before .before .before .before in
     record { plan = s .pre .0 .plan; prices = s .args .prices; offer = offer-of (s .pre .0 .offers) (s .args .k) (s .pre .1) (number (c .before)) (at (c .before .before .before .before .before .before)) }
 
 same-length : tie.Need-same-length
@@ -108,7 +108,7 @@ same-length c = search needs
 
 returns : tie.Need-returns
 returns c P o =
-    let s = c .before .before .before .before .before .before .before .before .before .before .before .before .before .before in
+    let s = c .before .before .before .before .before .before .before .before .before .before .before .before .before in
     let a = s .args in
     let v = number (c .before .before .before .before) in
     let z = at (c .before .before .before .before .before .before .before .before .before) in

@@ -26,14 +26,14 @@ abbrev μ-loop : tie.MeasureT-loop
 μ-loop prices out notes m₀ high count moved₀ k₀ m moved k = count - k
 
 link-to-requires : tie.Need-link-to-requires Inv-loop μ-loop
-link-to-requires c κs = let o = c .before .before .before .pre .offers in (omega (arith, o .from, o .few), o .room)
+link-to-requires c κs = let o = c .before .before .pre .offers in (omega (arith, o .from, o .few), o .room)
 
 times-requires : tie.Need-times-requires Inv-loop μ-loop
-times-requires c κs = c .before .before .before .before .pre .offers .fitsQ
+times-requires c κs = c .before .before .before .pre .offers .fitsQ
 
 -- the distance with the policy's weight, before it is stored
 sum : (c : tie.After-struct-told Inv-loop μ-loop) →
-    let a = c .before .before .before .before .before .before .before .args in
+    let a = c .before .before .before .before .before .before .args in
     toZ w64 (ofZ w64 (c .before .before .before .link-to .result .distance)) +ℤ toZ w64 (ofZ w64 (c .before .before .times .result)) ≡ highOf (a .prices) (a .m .now) (a .out)
 sum c =
     ap₂ (λ y z. y +ℤ z)
@@ -42,7 +42,7 @@ sum c =
 
 add-high : tie.Need-add-high Inv-loop μ-loop
 add-high c =
-    let s = c .before .before .before .before .before .before .before in
+    let s = c .before .before .before .before .before .before in
     let a = s .args in
     let o = s .pre .offers in
     subst (SFits w64) (sym (sum c))
@@ -55,7 +55,7 @@ loop-holds c = (omega arith, refl, λ P o. trying-start o)
 relax-outcome-requires : tie.Need-relax-outcome-requires Inv-loop μ-loop
 relax-outcome-requires c κs =
     let l = c .before .before in
-    let s = c .before .before .before .before .before .before .before .before .before .before in
+    let s = c .before .before .before .before .before .before .before .before .before in
     let t = l .loop .inv .2 (s .pre .plan) (s .pre .offers) in (
       record { plan = s .pre .plan; offers = t .offers },
       c .before .loop-test .taken,

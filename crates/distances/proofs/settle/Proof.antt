@@ -1,12 +1,13 @@
 -- `distances::settle` meets its contract: passes until nothing moves. Assumes nothing.
-use mathlib.Core.Path.{_≡_, refl, _∙_}
+use mathlib.Core.Path.{_≡_, refl, sym, subst, _∙_}
+use borrow.Author.Needs.{needs}
 use native.Mathlib.Omega.{arith}
 use lib.ListN.{length}
 use Rattle.words.proofs.Free.{only-refl, only-trans}
 use Rattle.model.specs.Plan.{Plan}
 use Rattle.graph.specs.Outcomes.{NotesFree}
 use Rattle.distances.specs.Distances.{Priced, Sought}
-use Rattle.distances.proofs.Passes.{Passed, ahead, ahead-most, passed-none, passed-sought, passed-less, passed-more, pass-less, begin-sought, passed-end}
+use Rattle.distances.proofs.Passes.{Passed, ahead, passed-none, passed-sought, passed-more, pass-less, begin-sought, passed-end}
 use Rattle.distances.proofs.settle.Statement.{statement}
 use Rattle.distances.proofs.settle.Tie as tie
 
@@ -20,14 +21,14 @@ abbrev μ-loop : tie.MeasureT-loop
 μ-loop prices next rules notes₀ m₀ moved₀ steps₀ passes₀ notes m moved steps passes = ahead (prices .n) m moved
 
 begin-requires : tie.Need-begin-requires Inv-loop μ-loop
-begin-requires c κs = c .before .before .before .pre .1 .priced .room
+begin-requires c κs = c .before .before .pre .1 .priced .room
 
 loop-holds : tie.Need-loop-holds Inv-loop μ-loop
 loop-holds c = (refl, refl, λ P s. passed-none (s .search), only-refl)
 
 -- a plan is searched when the passes begin
 sought : (c : tie.At-loop Inv-loop μ-loop) →
-    let a = c .before .before .before .before .before .before .before .args in
+    let a = c .before .before .before .before .before .before .args in
     (P : Plan) → Priced P (a .rules) (a .next .now) (a .m .now) (a .prices) →
     Sought P (a .rules) (a .next .now) (c .before .before .before .begin .last .0) (a .prices)
 sought c P = begin-sought (c .before .before .before .begin .ensures)
@@ -35,7 +36,7 @@ sought c P = begin-sought (c .before .before .before .begin .ensures)
 pass-requires : tie.Need-pass-requires Inv-loop μ-loop
 pass-requires c κs =
     let head = c .before .before .before in
-    let start = head .before .before .before .before .before .before .before in
+    let start = head .before .before .before .before .before .before in
     let pricing = start .pre .1 in
     let s = sought head (pricing .plan) (pricing .priced) in (
       start .pre .0,
@@ -43,44 +44,35 @@ pass-requires c κs =
       omega (arith, head .loop .inv .0, start .pre .2),
     )
 
-add-passes : tie.Need-add-passes Inv-loop μ-loop
-add-passes c =
-    let test = c .before .before .before .before .before .before .before in
-    let head = test .before in
-    let pricing = head .before .before .before .before .before .before .before .pre .1 in
-    let s = sought head (pricing .plan) (pricing .priced) in
-    let p = head .loop .inv .2 (pricing .plan) s in
-    record { fits = omega (arith, passed-less p (test .loop-test .taken), ahead-most s) }
+counted-requires : tie.Need-counted-requires Inv-loop μ-loop
+counted-requires c κs = search needs
 
 loop-less : tie.Need-loop-less Inv-loop μ-loop
 loop-less c =
-    let call = c .before .before .before .before in
+    let call = c .before .before .before in
     let test = call .before .before .before in
     let head = test .before in
-    let pricing = head .before .before .before .before .before .before .before .pre .1 in
+    let pricing = head .before .before .before .before .before .before .pre .1 in
     let s = sought head (pricing .plan) (pricing .priced) in
     let p = head .loop .inv .2 (pricing .plan) s in
     pass-less (test .loop-test .taken) (call .pass .ensures .0 (pricing .plan) (passed-sought p s (test .loop-test .taken)))
 
 loop-again : tie.Need-loop-again Inv-loop μ-loop
 loop-again c =
-    let call = c .before .before .before .before in
+    let call = c .before .before .before in
     let test = call .before .before .before in
     let l = test .before .loop in
     let again = test .loop-test .taken in (
-      call .pass .kept .1 .1 .1 .0 ∙ l .inv .0,
+      call .pass .ensures .1 .long ∙ l .inv .0,
       call .pass .kept .1 .1 .1 .1 .0 ∙ l .inv .1,
       λ P s.
           let p = l .inv .2 P s in
-          passed-more p again (call .pass .ensures .0 P (passed-sought p s again)),
+          subst (Passed P _ _ _ _ _) (sym (c .counted .ensures)) (passed-more p again (call .pass .ensures .0 P (passed-sought p s again))),
       only-trans (l .inv .3) (call .pass .ensures .1),
     )
 
 same-length : tie.Need-same-length Inv-loop μ-loop
-same-length c = c .before .loop .inv .0
-
-same-length-2 : tie.Need-same-length-2 Inv-loop μ-loop
-same-length-2 c =
+same-length c =
     let head = c .before in
     head .loop .inv .1 ∙ head .before .before .before .begin .kept .0
 
@@ -99,9 +91,8 @@ settle-spec =
     begin-requires
     loop-holds
     pass-requires
-    add-passes
+    counted-requires
     loop-less
     loop-again
     same-length
-    same-length-2
     returns)

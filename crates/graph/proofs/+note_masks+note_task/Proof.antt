@@ -1,282 +1,351 @@
 -- The proof of the cycle of calls {note_masks, note_task}. The measure falls by a task, and within a task by a mask.
 -- Assumes nothing.
-use mathlib.Core.Path.{sym, ap, ap₂, _∙_, subst}
-use mathlib.Core.List.{List}
+use mathlib.Core.Path.{_≡_, sym, subst}
+use mathlib.Core.List.{List, []}
 use Prim.Native.Nat.{ℕ, suc, _+_, _-_, _*_, _≤_, _<_}
 use native.Mathlib.Omega.{arith}
+use lib.Bits.{bitOr}
+use lib.ListN.{getD}
 use borrow.Author.Needs.{needs}
-use borrow.Author.Tests.{not-true, not-false}
-use lib.ListN.{length, getD}
-use Rattle.model.specs.Limits.{maxWindow}
-use Rattle.model.specs.Masks.{maskCount, groupStart}
-use Rattle.model.specs.Plan.{Task}
-use Rattle.masks.proofs.Groups.{groupBelow}
-use Rattle.graph.specs.Outcomes.{Noting, chosenWith, nextOutcomes, maskOutcomes}
-use Rattle.graph.specs.declared.Chosen.{Chosen}
-use Rattle.graph.proofs.Choices.{noting-none, noting-append, mask-low, group-end-low, next-last, next-idle, next-released, task-range, mask-none, mask-next, mask-take}
 use borrow.Fn.Kinds.{In}
 use borrow.Fn.PlainCycle.{Measures, is, falls, and}
+use Rattle.model.specs.Bytes.{part}
+use Rattle.model.specs.Masks.{maskCount}
+use Rattle.words.specs.Packed.{fieldBase}
+use Rattle.masks.proofs.list_clear.Reads as list-clear-reads
+use Rattle.masks.specs.Clear.{clearIn}
 use Rattle.graph.proofs.note_masks.Reads as note-masks
 use Rattle.graph.proofs.note_masks.Kinds as note-masks-kinds
 use Rattle.graph.proofs.+note_masks+note_task.Lts-note_masks as note-masks-lts
 use Rattle.graph.proofs.note_task.Reads as note-task
 use Rattle.graph.proofs.note_task.Kinds as note-task-kinds
 use Rattle.graph.proofs.+note_masks+note_task.Lts-note_task as note-task-lts
-use Rattle.graph.proofs.is_released.Reads as is-released-reads
 use Rattle.graph.proofs.note.Reads as note-reads
-use Rattle.graph.proofs.task_at.Reads as task-at-reads
-use Rattle.graph.proofs.with_mask.Reads as with-mask-reads
-use Rattle.masks.proofs.group_end.Reads as group-end-reads
-use Rattle.masks.proofs.group_start.Reads as group-start-reads
-use Rattle.masks.proofs.next_clear.Reads as next-clear-reads
+use Rattle.graph.proofs.wide.Reads as wide-reads
+use Rattle.graph.specs.Outcomes.{listPlace, Noting}
+use Rattle.graph.specs.Offers.{spanStartIn, spanEndIn, valueIn, taskCount, wantedIn, offered, offeredWith, Carries, Listed}
+use Rattle.graph.proofs.Notes.{keeps-refl}
+use Rattle.graph.proofs.Choices.{noting-none, noting-append, noting-fewer, list-noting, offered-last, offered-next, with-none, with-more, carries-idle, carries-masks, moved-fits, carries-mask, joined-fits, listed-clear, listed-later, part-kept}
 use Rattle.graph.proofs.+note_masks+note_task.{statement}
 use Rattle.graph.proofs.+note_masks+note_task.Tie.{close}
 
-abbrev μ-note-masks : Measures 2 note-masks-kinds.ps ℕ
-μ-note-masks κs a = suc maskCount * (a .1 .0 .count - a .1 .1 .0 .task - 1) + (a .1 .1 .1 .0 .end - a .1 .1 .1 .0 .at)
+-- a task that is not the last one's next
+below : {i n : ℕ} → (i ≡ n → ⊥) → i ≤ n → i < n
+below ne le = omega arith
 
-abbrev μ-note-task : Measures 2 note-task-kinds.ps ℕ
-μ-note-task κs a = suc maskCount * (a .1 .0 .count - a .1 .1 .0 .task)
+abbrev μ-note-masks : Measures 3 note-masks-kinds.ps ℕ
+μ-note-masks κs a = suc maskCount * (taskCount (a .1 .0 .now) - a .1 .1 .0) + (a .1 .1 .1 .1 .1 .1 .1 .1 .1 .0 - a .1 .1 .1 .1 .1 .1 .1 .1 .0)
 
-abbrev note-masks-at : ℕ → In 2 note-masks-kinds.ps
+abbrev μ-note-task : Measures 3 note-task-kinds.ps ℕ
+μ-note-task κs a = suc maskCount * (taskCount (a .1 .0 .now) - a .1 .1 .0)
+
+abbrev note-masks-at : ℕ → In 3 note-masks-kinds.ps
 note-masks-at t =
-    and 2 note-masks-kinds.ps (is 2 note-masks-kinds.ps μ-note-masks t) note-masks.Pre
+    and 3 note-masks-kinds.ps (is 3 note-masks-kinds.ps μ-note-masks t) note-masks.Pre
 
-abbrev note-masks-below : ℕ → In 2 note-masks-kinds.ps
+abbrev note-masks-below : ℕ → In 3 note-masks-kinds.ps
 note-masks-below t =
-    and 2 note-masks-kinds.ps (falls 2 note-masks-kinds.ps _<_ μ-note-masks t) note-masks.Pre
+    and 3 note-masks-kinds.ps (falls 3 note-masks-kinds.ps _<_ μ-note-masks t) note-masks.Pre
 
-abbrev note-task-at : ℕ → In 2 note-task-kinds.ps
-note-task-at t = and 2 note-task-kinds.ps (is 2 note-task-kinds.ps μ-note-task t) note-task.Pre
+abbrev note-task-at : ℕ → In 3 note-task-kinds.ps
+note-task-at t = and 3 note-task-kinds.ps (is 3 note-task-kinds.ps μ-note-task t) note-task.Pre
 
-abbrev note-task-below : ℕ → In 2 note-task-kinds.ps
+abbrev note-task-below : ℕ → In 3 note-task-kinds.ps
 note-task-below t =
-    and 2 note-task-kinds.ps (falls 2 note-task-kinds.ps _<_ μ-note-task t) note-task.Pre
+    and 3 note-task-kinds.ps (falls 3 note-task-kinds.ps _<_ μ-note-task t) note-task.Pre
 
 abbrev masks-claims : ℕ → note-masks-lts.Claims
-masks-claims t = (
-  next-clear-reads.Asked,
-  next-clear-reads.Learnt,
-  task-at-reads.Asked,
-  task-at-reads.Learnt,
-  with-mask-reads.Asked,
-  with-mask-reads.Learnt,
-  note-task-below t,
-  note-task.Post,
-  note-masks-below t,
-  note-masks.Post,
-)
+masks-claims t = (wide-reads.Asked, wide-reads.Learnt, note-task-below t, note-task.Post, note-masks-below t, note-masks.Post)
 
 abbrev task-claims : ℕ → note-task-lts.Claims
 task-claims t = (
   note-reads.Asked,
   note-reads.Learnt,
+  note-task-below t,
+  note-task.Post,
+  list-clear-reads.Asked,
+  list-clear-reads.Learnt,
   note-masks-below t,
   note-masks.Post,
-  is-released-reads.Asked,
-  is-released-reads.Learnt,
-  task-at-reads.Asked,
-  task-at-reads.Learnt,
-  group-start-reads.Asked,
-  group-start-reads.Learnt,
-  group-end-reads.Asked,
-  group-end-reads.Learnt,
 )
 
-note-masks-next-clear-requires : (t : ℕ) → note-masks-lts.Need-next-clear-requires (masks-claims t) (note-masks-at t) note-masks.Post
-note-masks-next-clear-requires t c κs = search needs
+-- ---- the masks
 
 note-masks-returns : (t : ℕ) → note-masks-lts.Need-returns (masks-claims t) (note-masks-at t) note-masks.Post
 note-masks-returns t c =
-    let s = c .before .before .before in
-    let p = s .pre .1 in
+    let s = c .before in
     let a = s .args in
-    rw (mask-next (a .release) (a .chosen) (p .1) (a .span .at) (a .span .end) (c .before .next-clear .result) (p .5) (c .before .next-clear .ensures)
-    ∙ mask-none (a .release) (a .chosen) (p .1) (c .before .next-clear .result) (a .span .end) (c .if1 .taken))
-    (noting-none (a .memory .now) (a .count) (p .6))
+    let k = taskCount (a .offers .now) - a .task in
+    rw (with-none (a .offers .now) k (a .task) (a .pattern) (a .gain) (a .masks) (a .notes .now) (a .at) (a .end) (c .if1 .taken))
+    (noting-none (wantedIn (a .offers .now)) (listPlace (a .task)) (a .notes .now) (a .count) (s .pre .1 .3))
+
+note-masks-mul-m : (t : ℕ) → note-masks-lts.Need-mul-m (masks-claims t) (note-masks-at t) note-masks.Post
+note-masks-mul-m t c =
+    let p = c .before .pre .1 in
+    omega (arith, p .4 .within, p .4 .order, p .2 .task, p .1 .few, c .if1 .left)
 
 note-masks-element-copy-out-m : (t : ℕ) → note-masks-lts.Need-element-copy-out-m (masks-claims t) (note-masks-at t) note-masks.Post
 note-masks-element-copy-out-m t c =
-    let p = c .before .before .before .pre .1 in
-    omega (arith, c .if1 .left, p .5, c .before .next-clear .ensures .within)
+    let p = c .before .pre .1 in
+    omega (arith, p .4 .within, p .4 .order, p .2 .task, p .1 .few, c .if1 .left)
 
-note-masks-task-at-requires : (t : ℕ) → note-masks-lts.Need-task-at-requires (masks-claims t) (note-masks-at t) note-masks.Post
-note-masks-task-at-requires t c κs = search needs
+note-masks-wide-requires : (t : ℕ) → note-masks-lts.Need-wide-requires (masks-claims t) (note-masks-at t) note-masks.Post
+note-masks-wide-requires t c κs = search needs
 
-note-masks-with-mask-requires : (t : ℕ) → note-masks-lts.Need-with-mask-requires (masks-claims t) (note-masks-at t) note-masks.Post
-note-masks-with-mask-requires t c κs =
-    let s = c .before .before .before .before .before in
+note-masks-add-joined : (t : ℕ) → note-masks-lts.Need-add-joined (masks-claims t) (note-masks-at t) note-masks.Post
+note-masks-add-joined t c =
+    let s = c .before .before .before in
+    let a = s .args in
     let p = s .pre .1 in
-    let k = c .before .before .before .next-clear .result in
-    let below : k < maskCount = omega (arith, c .before .before .if1 .left, p .5, c .before .before .before .next-clear .ensures .within) in (
-      p .2,
-      omega (arith, p .1 .tasks .count, p .1 .size),
-      subst (λ (l : List ℕ). getD l k 0 < maskCount) (sym (p .0)) (mask-low k below),
-    )
+    let m = getD (a .notes .now) (a .at) 0 in
+    let low : m < maskCount = p .4 .low (a .at) (omega arith) (omega (arith, p .4 .order, c .before .before .if1 .left)) in
+    record { fits = omega (arith, joined-fits m low (p .1) (p .2), c .wide .ensures .0) }
 
 note-masks-note-task-requires : (t : ℕ) → note-masks-lts.Need-note-task-requires (masks-claims t) (note-masks-at t) note-masks.Post
 note-masks-note-task-requires t c κs =
-    let s = c .before .before .before .before .before .before .before in
+    let s = c .before .before .before .before in
+    let a = s .args in
     let p = s .pre .1 in
-    let w = c .before .with-mask .ensures in
-    let next = ap (λ (x : Chosen). x .task) (w .0) in
-    (omega (arith, s .pre .0, next), (p .0, p .1, w .1, omega (arith, next, p .3), p .6))
+    let m = getD (a .notes .now) (a .at) 0 in
+    let lt : a .at < a .end = omega (arith, p .4 .order, c .before .before .before .if1 .left) in
+    let low : m < maskCount = p .4 .low (a .at) (omega arith) lt in
+    let e = c .before .wide .ensures .0 in (
+      omega (arith, s .pre .0),
+      (p .0, p .1, subst (λ (x : ℕ). Carries (a .offers .now) (a .task) (bitOr (a .pattern) m) (a .gain) (a .masks + x) 1) (sym e) (carries-mask m low (p .2)), p .3),
+    )
 
-note-masks-add-at : (t : ℕ) → note-masks-lts.Need-add-at (masks-claims t) (note-masks-at t) note-masks.Post
-note-masks-add-at t c =
-    let p = c .before .before .before .before .before .before .before .before .before .before .pre .1 in
-    omega (arith, p .5, c .before .before .before .before .before .before .before .before .next-clear .ensures .within)
+note-masks-add-note-masks : (t : ℕ) → note-masks-lts.Need-add-note-masks (masks-claims t) (note-masks-at t) note-masks.Post
+note-masks-add-note-masks t c =
+    let s = c .before .before .before .before .before .before in
+    let p = s .pre .1 in
+    omega (arith, p .4 .within, p .4 .order, p .2 .task, p .1 .few, c .before .before .before .before .before .if1 .left)
 
 note-masks-note-masks-requires : (t : ℕ) → note-masks-lts.Need-note-masks-requires (masks-claims t) (note-masks-at t) note-masks.Post
 note-masks-note-masks-requires t c κs =
-    let s = c .before .before .before .before .before .before .before .before .before .before .before in
+    let s = c .before .before .before .before .before .before in
+    let a = s .args in
     let p = s .pre .1 in
-    let found = c .before .before .before .before .before .before .before .before .before .next-clear .ensures in
-    let more = c .before .before .before .before .before .before .before .before .if1 .left in
-    (omega (arith, s .pre .0, found .from, found .within, more), (p .0, p .1, p .2, p .3, omega (arith, found .within, more), p .5, c .before .before .before .note-task .ensures .room))
-
-note-masks-same-length : (t : ℕ) → note-masks-lts.Need-same-length (masks-claims t) (note-masks-at t) note-masks.Post
-note-masks-same-length t c = search needs
+    let lt : a .at < a .end = omega (arith, p .4 .order, c .before .before .before .before .before .if1 .left) in
+    let n = c .before .note-task .ensures in
+    (omega (arith, s .pre .0), (p .0, p .1, p .2, n .room, listed-later lt (n .keeps) (p .4)))
 
 note-masks-returns-2 : (t : ℕ) → note-masks-lts.Need-returns-2 (masks-claims t) (note-masks-at t) note-masks.Post
 note-masks-returns-2 t c =
-    let s = c .before .before .before .before .before .before .before .before .before .before .before .before .before .before in
-    let p = s .pre .1 in
+    let s = c .before .before .before .before .before .before .before in
     let a = s .args in
-    let found = c .before .before .before .before .before .before .before .before .before .before .before .before .next-clear in
-    let k = found .result in
-    let below : k < a .span .end = omega (arith, c .before .before .before .before .before .before .before .before .before .before .before .if1 .left, found .ensures .within) in
-    let mask = ap (λ (l : List ℕ). getD l k 0) (p .0) in
-    let next = c .before .before .before .before .before .before .before .before .with-mask .ensures .0 ∙ ap₂ (λ (x : Task) (m : ℕ). chosenWith x (a .chosen) m) (c .before .before .before .before .before .before .before .before .before .task-at .ensures) mask in
-    let first = c .before .before .before .before .before .before .note-task in
-    let second = c .before .before .note-masks in
-    rw (mask-next (a .release) (a .chosen) (p .1) (a .span .at) (a .span .end) k (p .5) (found .ensures)
-    ∙ mask-take (a .release) (a .chosen) (p .1) k (a .span .end) below (p .5) (found .ensures .clear below))
-    (noting-append _ _ (a .memory .now) (a .count) (first .last .1 .1 .1 .0) (first .result) (second .last .1 .1 .1 .1 .0) (second .result)
-    (subst (λ (x : Chosen). Noting (nextOutcomes (a .release) x) (a .memory .now) (a .count) (first .last .1 .1 .1 .0) (first .result)) next (first .ensures))
-    (second .ensures))
+    let p = s .pre .1 in
+    let o = a .offers .now in
+    let m = getD (a .notes .now) (a .at) 0 in
+    let k = taskCount o - a .task in
+    let lt : a .at < a .end = omega (arith, p .4 .order, c .before .before .before .before .before .before .if1 .left) in
+    let first = c .before .before .note-task in
+    let m₁ = first .last .1 .1 .1 .1 .1 .1 .0 in
+    let here = subst (λ (x : ℕ). Noting (wantedIn o) (offered o k (a .task) (bitOr (a .pattern) m) (a .gain) (a .masks + x)) (listPlace (a .task)) (a .notes .now) (a .count) m₁ (first .result)) (c .before .before .before .before .wide .ensures .0) (first .ensures) in
+    let left : Listed (a .notes .now) (a .task) (a .at + 1) (a .end) = listed-later lt keeps-refl (p .4) in
+    let later = subst (λ (l : List ℕ). Noting (wantedIn o) (offeredWith o k (a .task) (a .pattern) (a .gain) (a .masks) l) (listPlace (a .task)) m₁ (first .result) (c .note-masks .last .1 .1 .1 .1 .1 .1 .0) (c .note-masks .result))
+    (part-kept (first .ensures .keeps) left) (c .note-masks .ensures) in
+    rw (with-more o k (a .task) (a .pattern) (a .gain) (a .masks) (a .notes .now) (a .at) (a .end) lt (omega (arith, p .3 .room, p .4 .within, p .2 .task, p .1 .few)))
+    (noting-append (wantedIn o) (listPlace (a .task)) (offered o k (a .task) (bitOr (a .pattern) m) (a .gain) (a .masks + m))
+    (offeredWith o k (a .task) (a .pattern) (a .gain) (a .masks) (part (a .notes .now) (a .at + 1) (a .end - (a .at + 1))))
+    (a .notes .now) (a .count) m₁ (first .result) (c .note-masks .last .1 .1 .1 .1 .1 .1 .0) (c .note-masks .result) here later)
+
+-- ---- the tasks
+
+note-task-element-copy-out-if1 : (t : ℕ) → note-task-lts.Need-element-copy-out-if1 (task-claims t) (note-task-at t) note-task.Post
+note-task-element-copy-out-if1 t c = search needs
+
+note-task-element-copy-out-note : (t : ℕ) → note-task-lts.Need-element-copy-out-note (task-claims t) (note-task-at t) note-task.Post
+note-task-element-copy-out-note t c = search needs
+
+note-task-cast-note : (t : ℕ) → note-task-lts.Need-cast-note (task-claims t) (note-task-at t) note-task.Post
+note-task-cast-note t c = search needs
 
 note-task-note-requires : (t : ℕ) → note-task-lts.Need-note-requires (task-claims t) (note-task-at t) note-task.Post
-note-task-note-requires t c κs = search needs
-
-note-task-same-length : (t : ℕ) → note-task-lts.Need-same-length (task-claims t) (note-task-at t) note-task.Post
-note-task-same-length t c = search needs
+note-task-note-requires t c κs =
+    let s = c .before .before .before .before in
+    let p = s .pre .1 in
+    (p .3, omega (arith, p .2 .pattern), omega (arith, p .2 .gain, p .2 .task, p .1 .few))
 
 note-task-returns : (t : ℕ) → note-task-lts.Need-returns (task-claims t) (note-task-at t) note-task.Post
 note-task-returns t c =
-    let s = c .before .before .before .before .before .before .before in
+    let s = c .before .before .before .before .before in
+    let a = s .args in
     let p = s .pre .1 in
-    rw (next-last (s .args .release) (s .args .chosen) (p .1) (c .before .before .before .before .if1 .taken)) (c .before .before .note .ensures)
+    rw (offered-last (a .offers .now) (a .task) (a .pattern) (a .gain) (a .masks) (c .before .before .before .if1 .taken))
+    (noting-fewer (listPlace (a .task)) (omega (arith, p .2 .task, p .1 .few)) (c .note .ensures))
+
+note-task-add-next : (t : ℕ) → note-task-lts.Need-add-next (task-claims t) (note-task-at t) note-task.Post
+note-task-add-next t c =
+    let p = c .before .before .pre .1 in
+    omega (arith, p .2 .task, p .1 .few)
+
+note-task-mul-moved : (t : ℕ) → note-task-lts.Need-mul-moved (task-claims t) (note-task-at t) note-task.Post
+note-task-mul-moved t c =
+    let p = c .before .before .pre .1 in
+    record { fits = moved-fits (p .1) (below (c .if1 .left) (p .2 .task)) (p .2) }
+
+note-task-note-task-requires : (t : ℕ) → note-task-lts.Need-note-task-requires (task-claims t) (note-task-at t) note-task.Post
+note-task-note-task-requires t c κs =
+    let s = c .before .before .before in
+    let p = s .pre .1 in
+    let lt = below (c .before .if1 .left) (p .2 .task) in
+    (omega (arith, s .pre .0), (p .0, p .1, carries-idle (p .1) lt (p .2), p .3))
+
+note-task-mul-from : (t : ℕ) → note-task-lts.Need-mul-from (task-claims t) (note-task-at t) note-task.Post
+note-task-mul-from t c =
+    let p = c .before .before .before .before .pre .1 in
+    omega (arith, p .2 .task, p .1 .few)
+
+note-task-add-from : (t : ℕ) → note-task-lts.Need-add-from (task-claims t) (note-task-at t) note-task.Post
+note-task-add-from t c =
+    let p = c .before .before .before .before .pre .1 in
+    omega (arith, p .2 .task, p .1 .few)
+
+note-task-mul-list-clear : (t : ℕ) → note-task-lts.Need-mul-list-clear (task-claims t) (note-task-at t) note-task.Post
+note-task-mul-list-clear t c =
+    let p = c .before .before .before .before .pre .1 in
+    omega (arith, p .2 .task, p .1 .few)
+
+note-task-element-copy-out-list-clear : (t : ℕ) → note-task-lts.Need-element-copy-out-list-clear (task-claims t) (note-task-at t) note-task.Post
+note-task-element-copy-out-list-clear t c =
+    let p = c .before .before .before .before .pre .1 in
+    omega (arith, p .2 .task, p .1 .few)
+
+note-task-add-list-clear : (t : ℕ) → note-task-lts.Need-add-list-clear (task-claims t) (note-task-at t) note-task.Post
+note-task-add-list-clear t c =
+    let p = c .before .before .before .before .before .pre .1 in
+    omega (arith, p .2 .task, p .1 .few)
+
+note-task-mul-list-clear-2 : (t : ℕ) → note-task-lts.Need-mul-list-clear-2 (task-claims t) (note-task-at t) note-task.Post
+note-task-mul-list-clear-2 t c =
+    let p = c .before .before .before .before .before .pre .1 in
+    omega (arith, p .2 .task, p .1 .few)
+
+note-task-element-copy-out-list-clear-2 :
+    (t : ℕ) → note-task-lts.Need-element-copy-out-list-clear-2 (task-claims t) (note-task-at t) note-task.Post
+note-task-element-copy-out-list-clear-2 t c =
+    let p = c .before .before .before .before .before .pre .1 in
+    omega (arith, p .2 .task, p .1 .few)
+
+note-task-list-clear-requires : (t : ℕ) → note-task-lts.Need-list-clear-requires (task-claims t) (note-task-at t) note-task.Post
+note-task-list-clear-requires t c κs =
+    let s = c .before .before .before .before .before .before .before in
+    let i = s .args .task in
+    let p = s .pre .1 in
+    let lt = below (c .before .before .before .before .before .if1 .left) (p .2 .task) in
+    let n = c .before .before .before .note-task .ensures in
+    (p .0, p .1 .order i lt, p .1 .within i lt, omega (arith, n .room .room, p .1 .within i lt, p .1 .few))
+
+note-task-add-more : (t : ℕ) → note-task-lts.Need-add-more (task-claims t) (note-task-at t) note-task.Post
+note-task-add-more t c =
+    let p = c .before .before .before .before .before .before .before .before .pre .1 in
+    omega (arith, p .2 .task, p .1 .few)
+
+note-task-mul-more : (t : ℕ) → note-task-lts.Need-mul-more (task-claims t) (note-task-at t) note-task.Post
+note-task-mul-more t c =
+    let p = c .before .before .before .before .before .before .before .before .pre .1 in
+    omega (arith, p .2 .task, p .1 .few)
+
+note-task-element-copy-out-more : (t : ℕ) → note-task-lts.Need-element-copy-out-more (task-claims t) (note-task-at t) note-task.Post
+note-task-element-copy-out-more t c =
+    let p = c .before .before .before .before .before .before .before .before .pre .1 in
+    omega (arith, p .2 .task, p .1 .few)
+
+note-task-cast-more : (t : ℕ) → note-task-lts.Need-cast-more (task-claims t) (note-task-at t) note-task.Post
+note-task-cast-more t c =
+    let s = c .before .before .before .before .before .before .before .before .before in
+    let p = s .pre .1 in
+    record { fits = omega (arith, p .1 .value (s .args .task) (below (c .before .before .before .before .before .before .before .if1 .left) (p .2 .task))) }
+
+note-task-add-more-2 : (t : ℕ) → note-task-lts.Need-add-more-2 (task-claims t) (note-task-at t) note-task.Post
+note-task-add-more-2 t c =
+    let s = c .before .before .before .before .before .before .before .before .before in
+    let p = s .pre .1 in
+    record { fits = omega (arith, p .1 .value (s .args .task) (below (c .before .before .before .before .before .before .before .if1 .left) (p .2 .task)), p .2 .gain, p .2 .task, p .1 .few) }
 
 note-task-note-masks-requires : (t : ℕ) → note-task-lts.Need-note-masks-requires (task-claims t) (note-task-at t) note-task.Post
 note-task-note-masks-requires t c κs =
-    let s = c .before .before .before .before in
+    let s = c .before .before .before .before .before .before .before .before .before .before in
+    let a = s .args in
+    let i = a .task in
     let p = s .pre .1 in
-    (omega (arith, s .pre .0), (p .0, p .1, p .2, omega arith, omega arith, omega arith, p .4))
-
-note-task-is-released-requires : (t : ℕ) → note-task-lts.Need-is-released-requires (task-claims t) (note-task-at t) note-task.Post
-note-task-is-released-requires t c κs = search needs
-
-note-task-same-length-2 : (t : ℕ) → note-task-lts.Need-same-length-2 (task-claims t) (note-task-at t) note-task.Post
-note-task-same-length-2 t c = search needs
+    let lt = below (c .before .before .before .before .before .before .before .before .if1 .left) (p .2 .task) in
+    let n = c .before .before .before .before .before .before .note-task in
+    let cleared = c .before .before .list-clear in
+    let listed = list-noting (wantedIn (a .offers .now)) (n .last .1 .1 .1 .1 .1 .1 .0) (cleared .last .1 .1 .1 .1 .0) (listPlace i) (spanEndIn (a .offers .now) i - spanStartIn (a .offers .now) i) (n .result)
+    (omega arith) (omega (arith, p .1 .within i lt, p .1 .few)) (cleared .ensures .only) (n .ensures .room) in (
+      omega (arith, s .pre .0, cleared .ensures .ends, p .1 .within i lt),
+      (
+        p .0,
+        p .1,
+        carries-masks (p .1) lt (p .2),
+        listed .room,
+        listed-clear (a .pattern) (spanStartIn (a .offers .now) i) (spanEndIn (a .offers .now) i) i (n .last .1 .1 .1 .1 .1 .1 .0) (cleared .last .1 .1 .1 .1 .0) (cleared .result) (omega (arith, p .1 .within i lt)) (omega (arith, p .1 .few)) (n .ensures .room .room) (cleared .ensures),
+      ),
+    )
 
 note-task-returns-2 : (t : ℕ) → note-task-lts.Need-returns-2 (task-claims t) (note-task-at t) note-task.Post
 note-task-returns-2 t c =
-    let s = c .before .before .before .before .before .before .before .before .before in
-    let p = s .pre .1 in
-    rw
-    (next-idle (s .args .release) (s .args .chosen) (p .1) (omega arith) (sym (c .before .is-released .ensures) ∙ not-true (c .before .is-released .result) (c .if2 .taken)))
-    (c .before .before .before .before .note-masks .ensures)
-
-note-task-task-at-requires : (t : ℕ) → note-task-lts.Need-task-at-requires (task-claims t) (note-task-at t) note-task.Post
-note-task-task-at-requires t c κs = search needs
-
-note-task-cast-work : (t : ℕ) → note-task-lts.Need-cast-work (task-claims t) (note-task-at t) note-task.Post
-note-task-cast-work t c = search needs
-
-note-task-cast-window : (t : ℕ) → note-task-lts.Need-cast-window (task-claims t) (note-task-at t) note-task.Post
-note-task-cast-window t c = search needs
-
-note-task-group-start-requires : (t : ℕ) → note-task-lts.Need-group-start-requires (task-claims t) (note-task-at t) note-task.Post
-note-task-group-start-requires t c κs =
-    let s = c .before .before .before .before .before .before .before .before .before .before .before .before in
-    let p = s .pre .1 in
-    let range = task-range (s .args .release) (s .args .chosen) (p .1) (omega arith) in
-    let is = c .before .before .task-at .ensures in
-    omega (arith, ap (λ (k : Task). k .work) is, ap (λ (k : Task). k .window) is, range .within, range .window)
-
-note-task-group-end-requires : (t : ℕ) → note-task-lts.Need-group-end-requires (task-claims t) (note-task-at t) note-task.Post
-note-task-group-end-requires t c κs =
-    let s = c .before .before .before .before .before .before .before .before .before .before .before .before .before in
-    let p = s .pre .1 in
-    let range = task-range (s .args .release) (s .args .chosen) (p .1) (omega arith) in
-    let is = c .before .before .before .task-at .ensures in
-    omega (arith, ap (λ (k : Task). k .work) is, ap (λ (k : Task). k .window) is, range .within, range .window)
-
-note-task-note-masks-requires-2 : (t : ℕ) → note-task-lts.Need-note-masks-requires-2 (task-claims t) (note-task-at t) note-task.Post
-note-task-note-masks-requires-2 t c κs =
-    let s = c .before .before .before .before .before .before .before .before .before .before .before .before .before .before .before in
-    let p = s .pre .1 in
-    let more = c .before .before .before .before .before .before .before .before .before .before .before .before .if1 .left in
-    let range = task-range (s .args .release) (s .args .chosen) (p .1) (omega (arith, p .3, more)) in
-    let is = c .before .before .before .before .before .task-at .ensures in
-    let task = c .before .before .before .before .before .task-at .result in
-    let most : task .work ≤ maxWindow = omega (arith, ap (λ (k : Task). k .work) is, range .within, range .window) in
-    let at = c .before .before .group-start .ensures in
-    let end = c .before .group-end .ensures in
-    let low : c .before .group-end .result ≤ maskCount = rw end (group-end-low (task .work) _ most) in (
-      omega (arith, s .pre .0, low, p .3, more),
-      (p .0, p .1, p .2, omega (arith, p .3, more), omega (arith, at, end), low, c .before .before .before .before .before .before .before .before .before .before .note-masks .ensures .room),
-    )
-
-note-task-same-length-3 : (t : ℕ) → note-task-lts.Need-same-length-3 (task-claims t) (note-task-at t) note-task.Post
-note-task-same-length-3 t c = search needs
-
-note-task-returns-3 : (t : ℕ) → note-task-lts.Need-returns-3 (task-claims t) (note-task-at t) note-task.Post
-note-task-returns-3 t c =
-    let s = c .before .before .before .before .before .before .before .before .before .before .before .before .before .before .before .before .before .before in
-    let p = s .pre .1 in
+    let s = c .before .before .before .before .before .before .before .before .before .before .before in
     let a = s .args in
-    let is = c .before .before .before .before .before .before .before .before .task-at .ensures in
-    let at = c .before .before .before .before .before .group-start .ensures ∙ ap (λ (k : Task). groupStart (k .work)) is in
-    let end = c .before .before .before .before .group-end .ensures ∙ ap (λ (k : Task). groupStart (k .work) + length (groupBelow (k .window) (k .work))) is in
-    let first = c .before .before .before .before .before .before .before .before .before .before .before .before .before .note-masks in
-    let second = c .before .before .note-masks2 in
-    rw
-    (next-released (a .release) (a .chosen) (p .1) (omega (arith, p .3, c .before .before .before .before .before .before .before .before .before .before .before .before .before .before .before .if1 .left)) (sym (c .before .before .before .before .before .before .before .before .before .before .is-released .ensures) ∙ not-false (c .before .before .before .before .before .before .before .before .before .before .is-released .result) (c .before .before .before .before .before .before .before .before .before .if2 .left)))
-    (noting-append _ _ (a .memory .now) (a .count) (first .last .1 .1 .1 .1 .0) (first .result) (second .last .1 .1 .1 .1 .0) (second .result)
-    (first .ensures)
-    (subst (λ os. Noting os (first .last .1 .1 .1 .1 .0) (first .result) (second .last .1 .1 .1 .1 .0) (second .result)) (ap₂ (maskOutcomes (a .release) (a .chosen)) at end) (second .ensures)))
+    let o = a .offers .now in
+    let i = a .task in
+    let p = s .pre .1 in
+    let k = taskCount o - (i + 1) in
+    let lt = below (c .before .before .before .before .before .before .before .before .before .if1 .left) (p .2 .task) in
+    let n = c .before .before .before .before .before .before .before .note-task in
+    let m₁ = n .last .1 .1 .1 .1 .1 .1 .0 in
+    let cleared = c .before .before .before .list-clear in
+    let m₂ = cleared .last .1 .1 .1 .1 .0 in
+    let masks = c .note-masks in
+    let m₃ = masks .last .1 .1 .1 .1 .1 .1 .0 in
+    let place = listPlace i in
+    let listed = list-noting (wantedIn o) m₁ m₂ place (spanEndIn o i - spanStartIn o i) (n .result) (omega arith) (omega (arith, p .1 .within i lt, p .1 .few)) (cleared .ensures .only) (n .ensures .room) in
+    let later = subst (λ (l : List ℕ). Noting (wantedIn o) (offeredWith o k (i + 1) (a .pattern) (a .gain + valueIn o i) (a .masks * fieldBase) l) (listPlace (i + 1)) m₂ (n .result) m₃ (masks .result))
+    (cleared .ensures .masks) (masks .ensures) in
+    rw (offered-next o i (a .pattern) (a .gain) (a .masks) lt)
+    (noting-append (wantedIn o) place (offered o k (i + 1) (a .pattern) (a .gain) (a .masks * fieldBase))
+    (offeredWith o k (i + 1) (a .pattern) (a .gain + valueIn o i) (a .masks * fieldBase) (clearIn (a .pattern) (spanStartIn o i) (spanEndIn o i)))
+    (a .notes .now) (a .count) m₁ (n .result) m₃ (masks .result) (noting-fewer place (omega arith) (n .ensures))
+    (noting-append (wantedIn o) place [] (offeredWith o k (i + 1) (a .pattern) (a .gain + valueIn o i) (a .masks * fieldBase) (clearIn (a .pattern) (spanStartIn o i) (spanEndIn o i)))
+    m₁ (n .result) m₂ (n .result) m₃ (masks .result) listed (noting-fewer place (omega arith) later)))
 
 pub +note-masks+note-task-spec : {M : Type 1} → statement M
 +note-masks+note-task-spec = close μ-note-masks μ-note-task (λ t. note-masks-lts.spec (masks-claims t)
     (note-masks-at t)
     note-masks.Post
-    (note-masks-next-clear-requires t)
     (note-masks-returns t)
+    (note-masks-mul-m t)
     (note-masks-element-copy-out-m t)
-    (note-masks-task-at-requires t)
-    (note-masks-with-mask-requires t)
+    (note-masks-wide-requires t)
+    (note-masks-add-joined t)
     (note-masks-note-task-requires t)
-    (note-masks-add-at t)
+    (note-masks-add-note-masks t)
     (note-masks-note-masks-requires t)
-    (note-masks-same-length t)
     (note-masks-returns-2 t))
     λ t. note-task-lts.spec (task-claims t)
     (note-task-at t)
     note-task.Post
+    (note-task-element-copy-out-if1 t)
+    (note-task-element-copy-out-note t)
+    (note-task-cast-note t)
     (note-task-note-requires t)
-    (note-task-same-length t)
     (note-task-returns t)
+    (note-task-add-next t)
+    (note-task-mul-moved t)
+    (note-task-note-task-requires t)
+    (note-task-mul-from t)
+    (note-task-add-from t)
+    (note-task-mul-list-clear t)
+    (note-task-element-copy-out-list-clear t)
+    (note-task-add-list-clear t)
+    (note-task-mul-list-clear-2 t)
+    (note-task-element-copy-out-list-clear-2 t)
+    (note-task-list-clear-requires t)
+    (note-task-add-more t)
+    (note-task-mul-more t)
+    (note-task-element-copy-out-more t)
+    (note-task-cast-more t)
+    (note-task-add-more-2 t)
     (note-task-note-masks-requires t)
-    (note-task-is-released-requires t)
-    (note-task-same-length-2 t)
     (note-task-returns-2 t)
-    (note-task-task-at-requires t)
-    (note-task-cast-work t)
-    (note-task-cast-window t)
-    (note-task-group-start-requires t)
-    (note-task-group-end-requires t)
-    (note-task-note-masks-requires-2 t)
-    (note-task-same-length-3 t)
-    (note-task-returns-3 t)

@@ -1,40 +1,71 @@
--- `graph::best_masks` meets its contract.
--- Assumes nothing.
-use mathlib.Core.Path.{_≡_, ap, _∙_}
-use mathlib.Core.List.{[], _∷_}
-use Prim.Native.Nat.{_+_, _*_}
+-- `graph::best_masks` meets its contract: the shift loses no bit. Assumes nothing.
+use mathlib.Core.Path.{_≡_, ap₂}
+use Prim.Native.Nat.{ℕ, _+_, _-_, _*_, _^_, _<_}
+use native.Mathlib.Nat.{mod-eq-of-lt}
 use native.Mathlib.Omega.{arith}
-use lib.ListN.{length}
 use borrow.Author.Needs.{needs}
-use Rattle.model.specs.Bytes.{part}
 use Rattle.model.specs.Limits.{maxTasks}
-use Rattle.words.proofs.Memory.{overwrite-all, part-length}
-use Rattle.graph.specs.Outcomes.{Best, scoreBytes, bestBytes}
-use Rattle.graph.proofs.Notes.{best-at}
-use Rattle.graph.proofs.best_masks.Statement.{statement}
+use Rattle.words.specs.Packed.{fieldBase}
+use Rattle.words.proofs.Packed.{base-shift, shifted-lt}
+use Rattle.graph.specs.Outcomes.{wordBase, masksIn}
 use Rattle.graph.proofs.best_masks.Tie as tie
+use Rattle.graph.proofs.best_masks.Statement.{statement}
 
-mul-copy : tie.Need-mul-copy
-mul-copy c = search needs
+element-copy-out-wide : tie.Need-element-copy-out-wide
+element-copy-out-wide c = search needs
 
-add-copy : tie.Need-add-copy
-add-copy c = search needs
+wide-requires : tie.Need-wide-requires
+wide-requires c κs = search needs
 
-slice-aggregate-copy : tie.Need-slice-aggregate-copy
-slice-aggregate-copy c = search needs
+mul-masks : tie.Need-mul-masks
+mul-masks c = omega (arith, c .wide .ensures .1)
 
-copy-requires : tie.Need-copy-requires
-copy-requires c κs = search needs
+add-wide : tie.Need-add-wide
+add-wide c = search needs
+
+mul-wide : tie.Need-mul-wide
+mul-wide c = search needs
+
+element-copy-out-wide-2 : tie.Need-element-copy-out-wide-2
+element-copy-out-wide-2 c = search needs
+
+wide-requires-2 : tie.Need-wide-requires-2
+wide-requires-2 c κs = search needs
+
+add-masks : tie.Need-add-masks
+add-masks c = omega (arith, c .before .before .wide .ensures .1, c .wide2 .ensures .1)
+
+sub-result : tie.Need-sub-result
+sub-result c = search needs
+
+mul-result : tie.Need-mul-result
+mul-result c = search needs
+
+shl-result : tie.Need-shl-result
+shl-result c = omega arith
 
 returns : tie.Need-returns
 returns c =
     let start = c .before .before .before .before in
-    let m = start .args .memory .now in
-    let p = start .args .pattern in
-    let size : length (part m (p * bestBytes + scoreBytes) maxTasks) ≡ maxTasks = part-length m (p * bestBytes + scoreBytes) maxTasks (omega (arith, start .pre .0, start .pre .1)) in
-    λ count.
-    c .before .copy .ensures ∙ overwrite-all (0 ∷ 0 ∷ 0 ∷ 0 ∷ []) (part m (p * bestBytes + scoreBytes) maxTasks) size
-    ∙ ap (λ (b : Best). b .masks) (best-at m count p (start .pre .1))
+    let tasks = start .args .tasks in
+    let x = masksIn (start .args .notes .now) in
+    let is : c .before .before .wide .result * wordBase + c .wide2 .result ≡ x = ap₂ (λ (a b : ℕ). a * wordBase + b) (c .before .before .wide .ensures .0) (c .wide2 .ensures .0) in
+    let low : x * fieldBase ^ (maxTasks - tasks) < fieldBase ^ maxTasks = shifted-lt x tasks maxTasks (start .pre .3) (start .pre .2) in
+    rw (is, base-shift (maxTasks - tasks)) (mod-eq-of-lt low)
 
 pub best-masks-spec : {M : Type 1} → statement M
-best-masks-spec = tie.close (tie.spec mul-copy add-copy slice-aggregate-copy copy-requires returns)
+best-masks-spec =
+    tie.close
+    (tie.spec
+    element-copy-out-wide
+    wide-requires
+    mul-masks
+    add-wide
+    mul-wide
+    element-copy-out-wide-2
+    wide-requires-2
+    add-masks
+    sub-result
+    mul-result
+    shl-result
+    returns)

@@ -6,7 +6,8 @@ use borrow.Author.Needs.{needs}
 use borrow.Author.Tests.{not-true, not-false}
 use Rattle.plan.specs.View.{taskView}
 use Rattle.graph.specs.Choice.{fitsTask}
-use Rattle.graph.proofs.Search.{ones-counted, within, beyond, fits-zero, fits-idle, fits-beyond, fits-other, fits-work}
+use Rattle.masks.proofs.Groups.{ones-counted}
+use Rattle.graph.proofs.Search.{within, beyond, fits-zero, fits-idle, fits-beyond, fits-other, fits-work}
 use Rattle.graph.proofs.fits.Statement.{statement}
 use Rattle.graph.proofs.fits.Tie as tie
 

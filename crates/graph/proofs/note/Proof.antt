@@ -1,114 +1,87 @@
--- `graph::note` meets its contract, by the score noted for the pattern.
+-- `graph::note` meets its contract: the outcome is not better, or better, or the first of its pattern.
 -- Assumes nothing.
-use mathlib.Core.Path.{sym, _∙_}
 use native.Mathlib.Omega.{arith}
 use borrow.Author.Needs.{needs}
-use Rattle.graph.proofs.Notes.{few, free, noting-less, noting-better, noting-first}
-use Rattle.graph.proofs.note.Statement.{statement}
+use Rattle.graph.proofs.Notes.{free, noting-less, noting-better, noting-first}
 use Rattle.graph.proofs.note.Tie as tie
+use Rattle.graph.proofs.note.Statement.{statement}
 
-cast-at : tie.Need-cast-at
-cast-at c = search needs
+mul-score : tie.Need-mul-score
+mul-score c = search needs
 
-mul-at : tie.Need-mul-at
-mul-at c = search needs
-
-read-u32-requires : tie.Need-read-u32-requires
-read-u32-requires c κs = search needs
-
-same-length : tie.Need-same-length
-same-length c = search needs
+element-copy-out-score : tie.Need-element-copy-out-score
+element-copy-out-score c = search needs
 
 returns : tie.Need-returns
 returns c =
-    let start = c .before .before .before .before .before in
-    noting-less (start .args .memory .now) (start .args .count) (start .pre .0) (start .args .chosen) (start .pre .1) (omega arith)
+    let start = c .before .before in
+    let a = start .args in
+    noting-less (a .notes .now) (a .count) (start .pre .0) (a .wanted) (a .pattern) (a .gain) (a .masks) (start .pre .1) (omega arith)
 
-add-write-best : tie.Need-add-write-best
-add-write-best c = search needs
+add-notes : tie.Need-add-notes
+add-notes c = search needs
 
-write-best-requires : tie.Need-write-best-requires
-write-best-requires c κs = search needs
+mul-notes : tie.Need-mul-notes
+mul-notes c = search needs
 
-same-length-2 : tie.Need-same-length-2
-same-length-2 c = search needs
+element-write-notes : tie.Need-element-write-notes
+element-write-notes c = search needs
+
+put-masks-requires : tie.Need-put-masks-requires
+put-masks-requires c κs = search needs
 
 returns-2 : tie.Need-returns-2
 returns-2 c =
-    let start = c .before .before .before .before .before .before .before .before .before .before .before in
-    let m = start .args .memory .now in
-    let n = start .args .count in
-    let h = start .args .chosen in
-    let read = c .before .before .before .before .before .before .before .read-u32 .ensures in
-    rw (c .before .before .before .write-best .ensures)
-    (noting-better m n (start .pre .0) h (start .pre .1) (omega arith) (λ e. c .if2 .taken (read ∙ e)))
+    let start = c .before .before .before .before .before in
+    let a = start .args in
+    rw (c .before .put-masks .ensures)
+    (noting-better (a .notes .now) (a .count) (start .pre .0) (a .wanted) (a .pattern) (a .gain) (a .masks) (start .pre .1) (omega arith) (c .if2 .taken))
 
-mul-write-u16 : tie.Need-mul-write-u16
-mul-write-u16 c =
-    let start = c .before .before .before .before .before .before .before .before .before .before .before .before in
-    let m = start .args .memory .now in
-    let n = start .args .count in
-    let h = start .args .chosen in
-    omega (arith, few m n (start .pre .0))
+cast-notes : tie.Need-cast-notes
+cast-notes c = search needs
 
-add-write-u16 : tie.Need-add-write-u16
-add-write-u16 c =
-    let start = c .before .before .before .before .before .before .before .before .before .before .before .before in
-    let m = start .args .memory .now in
-    let n = start .args .count in
-    let h = start .args .chosen in
-    omega (arith, few m n (start .pre .0))
+add-notes-2 : tie.Need-add-notes-2
+add-notes-2 c =
+    let start = c .before .before .before .before .before in
+    omega (arith, free (start .args .notes .now) (start .args .count) (start .pre .0) (start .args .wanted) (start .args .pattern) (start .args .gain) (start .args .masks) (start .pre .1) (c .if2 .left))
 
-cast-write-u16 : tie.Need-cast-write-u16
-cast-write-u16 c = search needs
+mul-notes-2 : tie.Need-mul-notes-2
+mul-notes-2 c =
+    let start = c .before .before .before .before .before in
+    omega (arith, free (start .args .notes .now) (start .args .count) (start .pre .0) (start .args .wanted) (start .args .pattern) (start .args .gain) (start .args .masks) (start .pre .1) (c .if2 .left))
 
-write-u16-requires : tie.Need-write-u16-requires
-write-u16-requires c κs =
-    let start = c .before .before .before .before .before .before .before .before .before .before .before .before in
-    let m = start .args .memory .now in
-    let n = start .args .count in
-    let h = start .args .chosen in
-    let read = c .before .before .before .before .before .before .before .before .read-u32 .ensures in
-    omega (arith, free m n (start .pre .0) h (start .pre .1) (sym read ∙ c .before .if2 .left), c .before .before .before .before .write-best .kept .0, start .pre .0 .room)
+element-write-notes-2 : tie.Need-element-write-notes-2
+element-write-notes-2 c =
+    let start = c .before .before .before .before .before in
+    omega (arith, free (start .args .notes .now) (start .args .count) (start .pre .0) (start .args .wanted) (start .args .pattern) (start .args .gain) (start .args .masks) (start .pre .1) (c .if2 .left))
 
 add-result : tie.Need-add-result
 add-result c =
-    let start = c .before .before .before .before .before .before .before .before .before .before .before .before .before .before .before in
-    let m = start .args .memory .now in
-    let n = start .args .count in
-    let h = start .args .chosen in
-    omega (arith, few m n (start .pre .0))
-
-same-length-3 : tie.Need-same-length-3
-same-length-3 c = search needs
+    let start = c .before .before .before .before .before in
+    omega (arith, free (start .args .notes .now) (start .args .count) (start .pre .0) (start .args .wanted) (start .args .pattern) (start .args .gain) (start .args .masks) (start .pre .1) (c .if2 .left))
 
 returns-3 : tie.Need-returns-3
 returns-3 c =
-    let start = c .before .before .before .before .before .before .before .before .before .before .before .before .before .before .before in
-    let m = start .args .memory .now in
-    let n = start .args .count in
-    let h = start .args .chosen in
-    let read = c .before .before .before .before .before .before .before .before .before .before .before .read-u32 .ensures in
-    rw (c .before .before .write-u16 .ensures, c .before .before .before .before .before .before .before .write-best .ensures)
-    (noting-first m n (start .pre .0) h (start .pre .1) (sym read ∙ c .before .before .before .before .if2 .left))
+    let start = c .before .before .before .before .before in
+    let a = start .args in
+    rw (c .before .put-masks .ensures)
+    (noting-first (a .notes .now) (a .count) (start .pre .0) (a .wanted) (a .pattern) (a .gain) (a .masks) (start .pre .1) (c .if2 .left))
 
 pub note-spec : {M : Type 1} → statement M
 note-spec =
     tie.close
     (tie.spec
-    cast-at
-    mul-at
-    read-u32-requires
-    same-length
+    mul-score
+    element-copy-out-score
     returns
-    add-write-best
-    write-best-requires
-    same-length-2
+    add-notes
+    mul-notes
+    element-write-notes
+    put-masks-requires
     returns-2
-    mul-write-u16
-    add-write-u16
-    cast-write-u16
-    write-u16-requires
+    cast-notes
+    add-notes-2
+    mul-notes-2
+    element-write-notes-2
     add-result
-    same-length-3
     returns-3)

@@ -1,16 +1,14 @@
 -- `graph::reach` meets its contract. Assumes nothing.
 use mathlib.Core.Path.{_≡_, ap, _∙_}
 use mathlib.Core.List.{foldl}
-use Prim.Native.Nat.{_<_}
-use native.Mathlib.Omega.{arith}
 use borrow.Author.Needs.{needs}
-use Rattle.model.specs.Masks.{maskCount}
 use Rattle.words.proofs.Free.{only-trans}
 use Rattle.policy.specs.View.{tasksIn}
 use Rattle.graph.specs.Outcomes.{Notes, outcomes, note, notesIn, notedOf, nothingNoted}
+use Rattle.graph.proofs.Notes.{keeps-free}
 use Rattle.graph.proofs.Labels.{label-readable}
-use Rattle.graph.proofs.reach.Statement.{statement}
 use Rattle.graph.proofs.reach.Tie as tie
+use Rattle.graph.proofs.reach.Statement.{statement}
 
 slot-requires : tie.Need-slot-requires
 slot-requires c κs = search needs
@@ -21,28 +19,23 @@ clear-notes-requires c κs = search needs
 note-choices-requires : tie.Need-note-choices-requires
 note-choices-requires c κs = search needs
 
-same-length : tie.Need-same-length
-same-length c = search needs
-
 returns : tie.Need-returns
 returns c =
-    let noted = c .before .before in
-    let cleared = noted .before .before .before .before .before in
-    let slotted = cleared .before .before in
-    let start = slotted .before .before .before in
+    let noted = c .note-choices in
+    let cleared = c .before .before .before .clear-notes in
+    let start = c .before .before .before .before .before .before .before in
     let a = start .args in
-    let low : a .node .taken < maskCount = omega (arith, start .good) in
-    let notes : notesIn (noted .note-choices .last .1 .1 .0) (noted .note-choices .result) ≡ notedOf (tasksIn (a .rules)) (a .label) (a .node .taken) nothingNoted =
-    noted .note-choices .ensures .notes ∙ ap (λ (n : Notes). foldl note n (outcomes (tasksIn (a .rules)) (a .label) (a .node .taken))) (cleared .clear-notes .ensures .notes) in
+    let after = noted .last .1 .1 .1 .0 in
+    let notes : notesIn after (noted .result) ≡ notedOf (tasksIn (a .rules)) (a .label) (a .node .taken) (a .wanted) nothingNoted =
+    noted .ensures .notes ∙ ap (λ (n : Notes). foldl (note (a .wanted)) n (outcomes (tasksIn (a .rules)) (a .label) (a .node .taken))) (cleared .ensures .notes) in
     record {
-      slot = slotted .slot .ensures;
+      slot = c .before .before .before .before .before .slot .ensures;
       notes = notes;
-      readable = label-readable (tasksIn (a .rules)) (start .pre .0 .tasks) (a .label) (a .node .taken) low
-          (noted .note-choices .last .1 .1 .0) (noted .note-choices .result) notes (noted .note-choices .ensures .room);
-      only = only-trans (cleared .clear-notes .ensures .only) (noted .note-choices .ensures .only);
+      readable = label-readable (tasksIn (a .rules)) (start .pre .0 .tasks) (a .label) (a .node .taken) (a .wanted) (start .pre .2) after (noted .result) notes (noted .ensures .room);
+      only = only-trans (cleared .ensures .only) (keeps-free (noted .ensures .keeps));
     }
 
 pub reach-spec : {M : Type 1} → statement M
 reach-spec =
     tie.close
-    (tie.spec slot-requires clear-notes-requires note-choices-requires same-length returns)
+    (tie.spec slot-requires clear-notes-requires note-choices-requires returns)

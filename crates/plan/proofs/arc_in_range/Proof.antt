@@ -1,5 +1,6 @@
 -- `plan::arc_in_range` meets its contract: its tests are the definition's.
 -- Assumes nothing.
+use borrow.Author.Needs.{needs}
 use borrow.Author.Tests.{lt-ltb, le-ltb}
 use native.Mathlib.Omega.{arith}
 use Prim.Native.Nat.{_≤_, _<_, _^_}
@@ -22,6 +23,9 @@ returns-2 c =
     let h : 2 ^ (a .r .count) ≤ a .l = omega arith in
     simp (task-count _ (c .before .before .before .pre), lt-ltb _ _ (c .before .before .if1 .left), le-ltb _ _ h)
 
+cast-result : tie.Need-cast-result
+cast-result c = search needs
+
 returns-3 : tie.Need-returns-3
 unfolding arcInRange
 returns-3 c =
@@ -30,4 +34,4 @@ returns-3 c =
     simp (task-count _ (c .before .before .before .pre), lt-ltb _ _ (c .before .before .if1 .left), lt-ltb _ _ h)
 
 pub arc-in-range-spec : {M : Type 1} → statement M
-arc-in-range-spec = tie.close (tie.spec returns labels-requires returns-2 returns-3)
+arc-in-range-spec = tie.close (tie.spec returns labels-requires returns-2 cast-result returns-3)

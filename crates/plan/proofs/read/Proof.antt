@@ -1,178 +1,20 @@
--- `plan::read` meets its contract: before each command the definition's answer is what it reads from there on.
+-- `plan::read` meets its contract: it reads in the long-read edition.
 -- Assumes nothing.
-use mathlib.Core.Path.{_≡_, sym, ap, _∙_}
-use mathlib.Core.List.{List}
+use mathlib.Core.Path.{ap}
+use mathlib.Core.Logic.{inr}
 use borrow.Author.Needs.{needs}
-use denote.Ref.{now}
-use Prim.Native.Nat.{ℕ, _+_, _-_, _<_}
-use native.Mathlib.Omega.{arith}
-use lib.ListN.{length, getD}
-use Rattle.model.specs.Plan.{fault}
-use Rattle.model.proofs.Plan.{width-pos}
-use Rattle.plan.specs.View.{checkNumber, readingOf, arcsIn}
-use Rattle.plan.proofs.View.{fault-from-least}
-use Rattle.plan.proofs.Turn.{Reached, faultHere, reached-start, reached-next, readable, readable-arc, answers-found, answers-plan, answers-short}
+use Rattle.model.specs.Edition.{Edition}
 use Rattle.plan.proofs.read.Statement.{statement}
 use Rattle.plan.proofs.read.Tie as tie
 
-abbrev Inv-loop : tie.InvT-loop
-Inv-loop s next₀ r₀ at₀ next r at = Reached s next r at
+long-reads-requires : tie.Need-long-reads-requires
+long-reads-requires c κs = search needs
 
-abbrev μ-loop : tie.MeasureT-loop
-μ-loop s next₀ r₀ at₀ next r at = length s - at
+read-in-requires : tie.Need-read-in-requires
+read-in-requires c κs = inr (ap (λ (e : Edition). e .valueWidth) (c .long-reads .ensures))
 
-empty-table-requires : tie.Need-empty-table-requires Inv-loop μ-loop
-empty-table-requires c κs = search needs
-
-nothing-read-requires : tie.Need-nothing-read-requires Inv-loop μ-loop
-nothing-read-requires c κs = search needs
-
-loop-holds : tie.Need-loop-holds Inv-loop μ-loop
-loop-holds c =
-    reached-start _ _ _ (c .before .empty-table .ensures) (c .nothing-read .ensures)
-
-shared-slice-read-c : tie.Need-shared-slice-read-c Inv-loop μ-loop
-shared-slice-read-c c = search needs
-
-add-byte-at : tie.Need-add-byte-at Inv-loop μ-loop
-add-byte-at c = search needs
-
-byte-at-requires : tie.Need-byte-at-requires Inv-loop μ-loop
-byte-at-requires c κs = search needs
-
-add-byte-at-2 : tie.Need-add-byte-at-2 Inv-loop μ-loop
-add-byte-at-2 c = search needs
-
-byte-at-requires-2 : tie.Need-byte-at-requires-2 Inv-loop μ-loop
-byte-at-requires-2 c κs = search needs
-
-add-byte-at-3 : tie.Need-add-byte-at-3 Inv-loop μ-loop
-add-byte-at-3 c = search needs
-
-byte-at-requires-3 : tie.Need-byte-at-requires-3 Inv-loop μ-loop
-byte-at-requires-3 c κs = search needs
-
-sub-fault-of : tie.Need-sub-fault-of Inv-loop μ-loop
-sub-fault-of c = search needs
-
-fault-of-requires : tie.Need-fault-of-requires Inv-loop μ-loop
-fault-of-requires c κs = c .before .before .before .before .before .loop .inv .within
-
--- the head of a turn, and the bytes
-abbrev head : tie.After-fault-of Inv-loop μ-loop → tie.At-loop Inv-loop μ-loop
-head c = c .before .before .before .before .before .before
-
-abbrev bytes : tie.At-loop Inv-loop μ-loop → List ℕ
-bytes h = now (h .before .before .before .before .args .s)
-
-module _ (c : tie.After-fault-of Inv-loop μ-loop) where
-  -- a command is due
-  more : head c .loop .at < length (bytes (head c))
-  more = c .before .before .before .before .before .loop-test .taken
-
-  -- the fault found is the definition's
-  found : checkNumber (c .fault-of .result)
-      ≡ faultHere (bytes (head c)) (head c .loop .next) (head c .loop .r) (head c .loop .at) (head c .loop .inv) more
-  found =
-      c .fault-of .ensures
-      ∙ fault-from-least _ _ _ _ _ _ _ (head c .loop .inv .within) (head c .loop .inv .holds)
-      ∙ (λ i. fault (readingOf (head c .loop .r) (arcsIn (head c .loop .next))) (length (bytes (head c)) - head c .loop .at)
-      (getD (bytes (head c)) (head c .loop .at) 0)
-      (c .before .before .before .byte-at .ensures i) (c .before .before .byte-at2 .ensures i) (c .before .byte-at3 .ensures i))
-
-enum-known-outcome : tie.Need-enum-known-outcome Inv-loop μ-loop
-enum-known-outcome c = search needs
-
-refused-requires : tie.Need-refused-requires Inv-loop μ-loop
-refused-requires c κs = search needs
-
-returns : tie.Need-returns Inv-loop μ-loop
-returns c =
-    let f = c .before .before .before .before in
-    answers-found _ _ _ _ (head f .loop .inv) (more f) _ _ _ (c .refused .ensures) (c .before .before .outcome .given .1) (found f)
-
-enum-told : tie.Need-enum-told Inv-loop μ-loop
-enum-told c = search needs
-
--- no fault was found
-passed : (c : tie.After-enum-told Inv-loop μ-loop) →
-    0 ≡ faultHere (bytes (head (c .before .before))) (head (c .before .before) .loop .next) (head (c .before .before) .loop .r)
-    (head (c .before .before) .loop .at) (head (c .before .before) .loop .inv) (more (c .before .before))
-passed c = sym (ap checkNumber (c .enum-told .given .1)) ∙ found (c .before .before)
-
-with-next-requires : tie.Need-with-next-requires Inv-loop μ-loop
-with-next-requires c κs =
-    let f = c .before .before .before in
-    let i = head f .loop .inv in
-    rw (f .before .before .before .byte-at .ensures, f .before .before .byte-at2 .ensures, f .before .byte-at3 .ensures)
-    (readable _ _ _ _ i (more f) (passed (c .before)), i .holds, readable-arc _ _ _ _ i (more f) (passed (c .before)))
-
-width-of-requires : tie.Need-width-of-requires Inv-loop μ-loop
-width-of-requires c κs = search needs
-
--- the next turn's head
-reached : (c : tie.After-width-of Inv-loop μ-loop) →
-    Reached (bytes (head (c .before .before .before .before .before))) (c .before .with-next .last .1 .0) (c .before .with-next .result)
-    (head (c .before .before .before .before .before) .loop .at + c .width-of .result)
-reached c =
-    let f = c .before .before .before .before .before in
-    rw (c .width-of .ensures)
-    (reached-next _ _ _ _ (head f .loop .inv) (more f) (passed (c .before .before .before)) _ _
-    (rw (f .before .before .before .byte-at .ensures, f .before .before .byte-at2 .ensures, f .before .byte-at3 .ensures) at (c .before .with-next .ensures)))
-
-add-at : tie.Need-add-at Inv-loop μ-loop
-add-at c = omega (arith, reached c .inside)
-
-loop-less : tie.Need-loop-less Inv-loop μ-loop
-loop-less c = omega (arith, reached c .inside, c .width-of .ensures, width-pos (getD (bytes (head (c .before .before .before .before .before))) (head (c .before .before .before .before .before) .loop .at) 0))
-
-loop-again : tie.Need-loop-again Inv-loop μ-loop
-loop-again c = reached c
-
-answer-requires : tie.Need-answer-requires Inv-loop μ-loop
-answer-requires c κs = search needs
-
-returns-2 : tie.Need-returns-2 Inv-loop μ-loop
-returns-2 c =
-    let l = c .before .before in
-    answers-plan _ _ _ _ (l .before .loop .inv) (l .loop-test .left) _ (c .answer .ensures) (c .before .if1 .taken)
-
-refused-requires-2 : tie.Need-refused-requires-2 Inv-loop μ-loop
-refused-requires-2 c κs = search needs
-
-returns-3 : tie.Need-returns-3 Inv-loop μ-loop
-returns-3 c =
-    let l = c .before .before in
-    answers-short _ _ _ _ (l .before .loop .inv) (l .loop-test .left) _ (c .refused2 .ensures) (c .before .if1 .left)
+returns : tie.Need-returns
+returns c = rw (c .before .long-reads .ensures) at (c .read-in .ensures)
 
 pub read-spec : {M : Type 1} → statement M
-read-spec =
-    tie.close
-    (tie.spec
-    Inv-loop
-    μ-loop
-    empty-table-requires
-    nothing-read-requires
-    loop-holds
-    shared-slice-read-c
-    add-byte-at
-    byte-at-requires
-    add-byte-at-2
-    byte-at-requires-2
-    add-byte-at-3
-    byte-at-requires-3
-    sub-fault-of
-    fault-of-requires
-    enum-known-outcome
-    refused-requires
-    returns
-    enum-told
-    with-next-requires
-    width-of-requires
-    add-at
-    loop-less
-    loop-again
-    answer-requires
-    returns-2
-    refused-requires-2
-    returns-3)
+read-spec = tie.close (tie.spec long-reads-requires read-in-requires returns)

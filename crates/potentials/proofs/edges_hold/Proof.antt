@@ -33,20 +33,15 @@ sub-u c = omega (arith, c .before .loop .inv .0)
 
 node-holds-requires : tie.Need-node-holds-requires Inv-loop μ-loop
 node-holds-requires c κs =
-    let start = c .before .before .before .before .before .before in
+    let start = c .before .before .before .before .before in
     let l = c .before .before .loop in
     (start .pre .0, start .pre .1, omega (arith, l .inv .0), omega (arith, l .inv .2, start .pre .2))
 
-same-length : tie.Need-same-length Inv-loop μ-loop
-same-length c =
-    let call = c .before .before .before in
-    call .node-holds .kept .1 .1 .1 .1 .0 ∙ call .before .before .before .loop .inv .2
-
 returns : tie.Need-returns Inv-loop μ-loop
 returns c =
-    let call = c .before .before .before in
+    let call = c .before in
     let l = call .before .before .before .loop in
-    let a = call .before .before .before .before .before .before .before .args in (
+    let a = call .before .before .before .before .before .before .args in (
       λ P d t.
           sym (edges-rows P d (a .rules) (a .next .now) (a .m .now) (a .s .now) (a .claim) t
           ∙ all-stops (rowOk P d (a .claim) (a .rules) (a .m .now)) (l .number - 1) (a .claim .n) (omega (arith, l .inv .0))
@@ -56,7 +51,7 @@ returns c =
 
 add-number : tie.Need-add-number Inv-loop μ-loop
 add-number c =
-    let start = c .before .before .before .before .before .before .before .before .before .before in
+    let start = c .before .before .before .before .before .before .before in
     record { fits = omega (arith, start .pre .1 .test .holds .rows .index .few) }
 
 loop-less : tie.Need-loop-less Inv-loop μ-loop
@@ -64,13 +59,13 @@ loop-less c = omega arith
 
 loop-again : tie.Need-loop-again Inv-loop μ-loop
 loop-again c =
-    let call = c .before .before .before in
+    let call = c .before in
     let l = call .before .before .before .loop in
-    let a = call .before .before .before .before .before .before .before .args in
+    let a = call .before .before .before .before .before .before .args in
     let more : l .number - 1 + 1 ≡ l .number + 1 - 1 = omega (arith, l .inv .0) in (
       omega arith,
       omega arith,
-      call .node-holds .kept .1 .1 .1 .1 .0 ∙ l .inv .2,
+      call .node-holds .ensures .1 .long ∙ l .inv .2,
       λ P d t.
           subst (λ (n : ℕ). all (rowOk P d (a .claim) (a .rules) (a .m .now)) (upFrom 0 n) ≡ true) more
           (all-next (rowOk P d (a .claim) (a .rules) (a .m .now)) (l .number - 1) (l .inv .3 P d t)
@@ -78,12 +73,9 @@ loop-again c =
       only-trans (l .inv .4) (call .node-holds .ensures .1),
     )
 
-same-length-2 : tie.Need-same-length-2 Inv-loop μ-loop
-same-length-2 c = c .before .loop .inv .2
-
 returns-2 : tie.Need-returns-2 Inv-loop μ-loop
 returns-2 c =
-    let a = c .before .before .before .before .before .args in
+    let a = c .before .before .before .before .args in
     let l = c .before .loop in
     let done : l .number - 1 ≡ a .claim .n = omega (arith, l .inv .1) in (
       λ P d t.
@@ -102,10 +94,8 @@ edges-hold-spec =
     loop-holds
     sub-u
     node-holds-requires
-    same-length
     returns
     add-number
     loop-less
     loop-again
-    same-length-2
     returns-2)

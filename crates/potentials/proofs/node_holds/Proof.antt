@@ -37,31 +37,31 @@ abbrev μ-loop : tie.MeasureT-loop
 
 row-requires : tie.Need-row-requires Inv-loop μ-loop
 row-requires c κs =
-    let start = c .before .before .before in
+    let start = c .before .before in
     let index = start .pre .1 .test .holds .rows .index in
     (omega (arith, index .few, start .pre .2), index .room)
 
 node-of-requires : tie.Need-node-of-requires Inv-loop μ-loop
 node-of-requires c κs =
-    let start = c .before .before .before .before in
+    let start = c .before .before .before in
     let a = start .args in
     let index = start .pre .1 .test .holds .rows .index in
     ap length (c .row .ensures) ∙ part-length (a .m .now) (rowBytes * a .u) rowBytes (omega (arith, index .few, index .room, start .pre .2))
 
 -- the node that is read
 named : (c : tie.After-node-of Inv-loop μ-loop) →
-    let a = c .before .before .before .before .before .args in
+    let a = c .before .before .before .before .args in
     c .node-of .result ≡ nodeIn (rowAt (a .m .now) (a .u))
 named c = c .node-of .ensures ∙ ap nodeIn (c .before .row .ensures)
 
 cast-labels : tie.Need-cast-labels Inv-loop μ-loop
 cast-labels c =
-    let rules = c .before .before .before .before .before .before .before .pre .0 in
+    let rules = c .before .before .before .before .before .before .pre .0 in
     record { fits = omega (arith, rules .size, rules .tasks .count) }
 
 shl-labels : tie.Need-shl-labels Inv-loop μ-loop
 shl-labels c =
-    let rules = c .before .before .before .before .before .before .before .pre .0 in
+    let rules = c .before .before .before .before .before .before .pre .0 in
     omega (arith, rules .size, rules .tasks .count)
 
 loop-holds : tie.Need-loop-holds Inv-loop μ-loop
@@ -69,31 +69,26 @@ loop-holds c = (omega arith, refl, λ P d t. refl, only-refl)
 
 label-holds-requires : tie.Need-label-holds-requires Inv-loop μ-loop
 label-holds-requires c κs =
-    let start = c .before .before .before .before .before .before .before .before .before .before in
+    let start = c .before .before .before .before .before .before .before .before .before in
     (start .pre .0, start .pre .1, record { below = start .pre .2; row = named (c .before .before .before .before .before) }, omega (arith, c .before .before .loop .inv .1, start .pre .3))
-
-same-length : tie.Need-same-length Inv-loop μ-loop
-same-length c =
-    let call = c .before .before .before in
-    call .label-holds .kept .1 .1 .1 .1 .0 ∙ call .before .before .before .loop .inv .1
 
 -- the labels are all
 labels : (c : tie.At-loop Inv-loop μ-loop) →
-    let start = c .before .before .before .before .before .before .before .before in
+    let start = c .before .before .before .before .before .before .before in
     (1 * 2 ^ start .args .setting .rules .count) % 256 ≡ 2 ^ start .args .setting .rules .count
 labels c =
-    let start = c .before .before .before .before .before .before .before .before in
+    let start = c .before .before .before .before .before .before .before in
     labels-shifted (start .args .setting .rules .count) (omega (arith, start .pre .0 .size, start .pre .0 .tasks .count))
 
 -- the node's edges by labels
 by-labels : (c : tie.At-loop Inv-loop μ-loop) (P : Plan) (d : Certificate) →
-    let a = c .before .before .before .before .before .before .before .before .args in
+    let a = c .before .before .before .before .before .before .before .args in
     let node = c .before .before .before .node-of .result in
     Test P d (a .setting .rules) (a .next .now) (a .m .now) (a .s .now) (a .setting .claim) →
     rowOk P d (a .setting .claim) (a .setting .rules) (a .m .now) (a .u)
     ≡ all (labelOk P d (a .setting .claim) (a .u) (nodeOf (tasksIn (a .setting .rules)) node)) (upFrom 0 (2 ^ a .setting .rules .count))
 by-labels c P d t =
-    let start = c .before .before .before .before .before .before .before .before in
+    let start = c .before .before .before .before .before .before .before in
     let a = start .args in
     let read = c .before .before .before in
     ap (λ (v : Node). all (edgeOk (nodes P) (a .setting .claim .p) (a .setting .claim .q) (d .potentials) (a .u)) (edges P (nodeOf (tasksIn (a .setting .rules)) v))) (sym (named read))
@@ -101,10 +96,10 @@ by-labels c P d t =
 
 returns : tie.Need-returns Inv-loop μ-loop
 returns c =
-    let call = c .before .before .before in
+    let call = c .before in
     let head = call .before .before .before in
     let l = head .loop in
-    let start = head .before .before .before .before .before .before .before .before in
+    let start = head .before .before .before .before .before .before .before in
     let a = start .args in
     let node = head .before .before .before .node-of .result in (
       λ P d t.
@@ -122,28 +117,25 @@ loop-less c = omega arith
 
 loop-again : tie.Need-loop-again Inv-loop μ-loop
 loop-again c =
-    let call = c .before .before .before in
+    let call = c .before in
     let head = call .before .before .before in
     let l = head .loop in
-    let start = head .before .before .before .before .before .before .before .before in
+    let start = head .before .before .before .before .before .before .before in
     let a = start .args in
     let node = head .before .before .before .node-of .result in (
       omega arith,
-      call .label-holds .kept .1 .1 .1 .1 .0 ∙ l .inv .1,
+      call .label-holds .ensures .1 .long ∙ l .inv .1,
       λ P d t.
           all-next (labelOk P d (a .setting .claim) (a .u) (nodeOf (tasksIn (a .setting .rules)) node)) (l .label) (l .inv .2 P d t)
           (sym (call .label-holds .ensures .0 P d t) ∙ not-false (call .label-holds .result) (c .if1 .left)),
       only-trans (l .inv .3) (call .label-holds .ensures .1),
     )
 
-same-length-2 : tie.Need-same-length-2 Inv-loop μ-loop
-same-length-2 c = c .before .loop .inv .1
-
 returns-2 : tie.Need-returns-2 Inv-loop μ-loop
 returns-2 c =
     let head = c .before in
     let l = head .loop in
-    let start = head .before .before .before .before .before .before .before .before in
+    let start = head .before .before .before .before .before .before .before in
     let a = start .args in
     let node = head .before .before .before .node-of .result in
     let done : l .label ≡ 2 ^ a .setting .rules .count = omega (arith, labels head) in (
@@ -166,10 +158,8 @@ node-holds-spec =
     shl-labels
     loop-holds
     label-holds-requires
-    same-length
     returns
     add-label
     loop-less
     loop-again
-    same-length-2
     returns-2)

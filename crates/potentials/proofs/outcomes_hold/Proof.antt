@@ -32,57 +32,57 @@ loop-holds : tie.Need-loop-holds Inv-loop μ-loop
 loop-holds c = (omega arith, λ d e. refl)
 
 noted-pattern-requires : tie.Need-noted-pattern-requires Inv-loop μ-loop
-noted-pattern-requires c κs = (c .before .before .before .before .before .before .pre .readable, omega arith)
+noted-pattern-requires c κs = (c .before .before .before .before .before .pre .readable, omega arith)
 
 cast-pattern : tie.Need-cast-pattern Inv-loop μ-loop
 cast-pattern c = search needs
 
 best-score-requires : tie.Need-best-score-requires Inv-loop μ-loop
 best-score-requires c κs =
-    let readable = c .before .before .before .before .before .before .before .pre .readable in
+    let readable = c .before .before .before .before .before .before .pre .readable in
     (readable .room, omega (arith, readable .few, c .noted-pattern .ensures .1))
 
 -- the score that is read
 score : (c : tie.After-best-score Inv-loop μ-loop) →
-    let start = c .before .before .before .before .before .before .before .before in
+    let start = c .before .before .before .before .before .before .before in
     let a = start .args in
     c .best-score .result ≡ scoreIn (a .notes .now) (a .out .count) (patternIn (a .notes .now) (c .before .before .before .loop .k))
 score c =
-    let a = c .before .before .before .before .before .before .before .before .args in
+    let a = c .before .before .before .before .before .before .before .args in
     c .best-score .ensures (a .out .count) ∙ ap (scoreIn (a .notes .now) (a .out .count)) (c .before .noted-pattern .ensures .0)
 
 sub-gain : tie.Need-sub-gain Inv-loop μ-loop
 sub-gain c =
-    let start = c .before .before .before .before .before .before .before .before in
+    let start = c .before .before .before .before .before .before .before in
     omega (arith, score c, start .pre .noted (c .before .before .before .loop .k) (omega arith))
 
 -- what is charged
 charge : (c : tie.After-times Inv-loop μ-loop) →
-    let a = c .before .before .before .before .before .before .before .before .before .args in
+    let a = c .before .before .before .before .before .before .before .before .args in
     toZ w64 (ofZ w64 (c .times .result)) ≡ pos (a .claim .p * gainIn (a .notes .now) (a .out .count) (patternIn (a .notes .now) (c .before .before .before .before .loop .k)))
 charge c =
-    let a = c .before .before .before .before .before .before .before .before .before .args in
+    let a = c .before .before .before .before .before .before .before .before .args in
     toZ-ofZ {w = w64} (record { sfits = c .times .ok }) ∙ c .times .ensures
     ∙ ap (λ (x : ℕ). pos (a .claim .p * (x - 1))) (score (c .before))
 
 times-requires : tie.Need-times-requires Inv-loop μ-loop
 times-requires c κs =
-    let start = c .before .before .before .before .before .before .before .before in
+    let start = c .before .before .before .before .before .before .before in
     omega (arith, start .pre .fitsP)
 
 -- the bound, before it is stored
 bound : (c : tie.After-times Inv-loop μ-loop) →
-    let start = c .before .before .before .before .before .before .before .before .before in
+    let start = c .before .before .before .before .before .before .before .before in
     let a = start .args in
     toZ w64 (ofZ w64 (a .high)) -ℤ toZ w64 (ofZ w64 (c .times .result))
     ≡ a .high -ℤ pos (a .claim .p * gainIn (a .notes .now) (a .out .count) (patternIn (a .notes .now) (c .before .before .before .before .loop .k)))
 bound c =
-    let start = c .before .before .before .before .before .before .before .before .before in
+    let start = c .before .before .before .before .before .before .before .before in
     ap₂ (λ y z. y -ℤ z) (toZ-ofZ {w = w64} (start .fits .high)) (charge c)
 
 sub-bound : tie.Need-sub-bound Inv-loop μ-loop
 sub-bound c =
-    let start = c .before .before .before .before .before .before .before .before .before in
+    let start = c .before .before .before .before .before .before .before .before in
     let a = start .args in
     let g = gainIn (a .notes .now) (a .out .count) (patternIn (a .notes .now) (c .before .before .before .before .loop .k)) in
     subst (SFits w64) (sym (bound c))
@@ -92,19 +92,19 @@ sub-bound c =
 
 target-holds-requires : tie.Need-target-holds-requires Inv-loop μ-loop
 target-holds-requires c κs =
-    let start = c .before .before .before .before .before .before .before .before .before in
+    let start = c .before .before .before .before .before .before .before .before in
     let a = start .args in
     subst (λ (p : ℕ). Findable (a .s .now) (a .m .now) (a .claim .n) (withPattern (a .out .cells) (a .out .state) p)) (sym (c .before .before .noted-pattern .ensures .0))
     (start .pre .found (c .before .before .before .before .loop .k) (omega arith))
 
 -- what one turn tests
 turn : (c : tie.After-target-holds Inv-loop μ-loop) (d : Certificate) →
-    let a = c .before .before .before .before .before .before .before .before .before .before .args in
+    let a = c .before .before .before .before .before .before .before .before .before .args in
     readCertificate (a .s .now) ≡ some d →
     c .target-holds .result
     ≡ patternOk (a .claim) (d .potentials) (a .notes .now) (a .out .count) (a .m .now) (a .out .cells) (a .out .state) (a .high) (patternIn (a .notes .now) (c .before .before .before .before .before .loop .k))
 turn c d e =
-    let a = c .before .before .before .before .before .before .before .before .before .before .args in
+    let a = c .before .before .before .before .before .before .before .before .before .args in
     c .target-holds .ensures d e
     ∙ ap₂ leZ
     (ap (λ (p : ℕ). potentialOf (d .potentials) (a .m .now) (a .claim .n) (withPattern (a .out .cells) (a .out .state) p)) (c .before .before .before .noted-pattern .ensures .0))
@@ -112,7 +112,7 @@ turn c d e =
 
 returns : tie.Need-returns Inv-loop μ-loop
 returns c d e =
-    let a = c .before .before .before .before .before .before .before .before .before .before .before .args in
+    let a = c .before .before .before .before .before .before .before .before .before .before .args in
     let l = c .before .before .before .before .before .before .loop in
     let ok = patternOk (a .claim) (d .potentials) (a .notes .now) (a .out .count) (a .m .now) (a .out .cells) (a .out .state) (a .high) in
     sym (all-map ok (patternIn (a .notes .now)) (upFrom 0 (a .out .count))
@@ -126,7 +126,7 @@ loop-less c = search needs
 
 loop-again : tie.Need-loop-again Inv-loop μ-loop
 loop-again c =
-    let start = c .before .before .before .before .before .before .before .before .before .before .before in
+    let start = c .before .before .before .before .before .before .before .before .before .before in
     let a = start .args in
     let l = c .before .before .before .before .before .before .loop in (
       omega arith,
@@ -139,7 +139,7 @@ loop-again c =
 
 returns-2 : tie.Need-returns-2 Inv-loop μ-loop
 returns-2 c d e =
-    let start = c .before .before .before .before .before .before in
+    let start = c .before .before .before .before .before in
     let a = start .args in
     let l = c .before .loop in
     let ok : ℤ → ℕ → Bool = λ z p. patternOk (a .claim) (d .potentials) (a .notes .now) (a .out .count) (a .m .now) (a .out .cells) (a .out .state) z p in

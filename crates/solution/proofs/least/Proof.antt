@@ -39,40 +39,40 @@ nothing-recurs = refl
 
 settle-requires : tie.Need-settle-requires Inv-loop μ-loop
 settle-requires c κs =
-    let s = c .before .before .before .before in
+    let s = c .before .before .before in
     let h = s .pre .1 in
     (s .pre .0, record { plan = h .plan; priced = record { planned = h .planned; holds = h .holds; fraction = nothing-recurs; room = s .pre .2 } }, s .pre .3)
 
 -- what the first search gives
 first : (c : tie.After-settle Inv-loop μ-loop) (P : Plan) →
-    let a = c .before .before .before .before .before .args in
+    let a = c .before .before .before .before .args in
     Planned P (a .rules) (a .next .now) → Holds P (tasksIn (a .rules)) (a .m .now) (a .n) →
     Aimed P (a .rules) (a .next .now) (c .settle .last .1 .1 .1 .1 .0) (a .n) (at 1 0 0 (c .settle .result)) (c .settle .result .steps)
 first c P planned holds =
     aimed-after planned holds nothing-recurs (λ h. absurd (omega (arith, h))) (λ e. refl)
-    (c .settle .ensures .0 P (record { planned = planned; holds = holds; fraction = nothing-recurs; room = c .before .before .before .before .before .pre .2 }))
+    (c .settle .ensures .0 P (record { planned = planned; holds = holds; fraction = nothing-recurs; room = c .before .before .before .before .pre .2 }))
 
 loop-holds : tie.Need-loop-holds Inv-loop μ-loop
 loop-holds c = (refl, only-refl, only-refl, λ P a. a)
 
 -- where a turn stands, for the plan that there is
 here : (l : tie.At-loop Inv-loop μ-loop) →
-    let s = l .before .before .before .before .before .before .before .before .before .before in
+    let s = l .before .before .before .before .before .before .before in
     Aimed (s .pre .1 .plan) (s .args .rules) (s .args .next .now) (l .loop .m) (s .args .n) (at (l .loop .p) (l .loop .q) (l .loop .steps) (l .loop .found)) (l .loop .found .steps)
 here l =
-    let s = l .before .before .before .before .before .before .before .before .before .before in
-    l .loop .inv .3 (s .pre .1 .plan) (first (l .before .before .before .before .before) (s .pre .1 .plan) (s .pre .1 .planned) (s .pre .1 .holds))
+    let s = l .before .before .before .before .before .before .before in
+    l .loop .inv .3 (s .pre .1 .plan) (first (l .before .before .before) (s .pre .1 .plan) (s .pre .1 .planned) (s .pre .1 .holds))
 
 room : (l : tie.At-loop Inv-loop μ-loop) → linksEnd ≤ length (l .loop .m)
-room l = omega (arith, l .before .before .before .before .before .before .before .before .before .before .pre .2, l .before .before .before .before .before .settle .kept .1 .1 .1 .1 .0, l .loop .inv .2 .long)
+room l = omega (arith, l .before .before .before .before .before .before .before .pre .2, l .before .before .before .settle .kept .1 .1 .1 .1 .0, l .loop .inv .2 .long)
 
 notes-room : (l : tie.At-loop Inv-loop μ-loop) → noteRoom ≤ length (l .loop .notes)
-notes-room l = omega (arith, l .before .before .before .before .before .before .before .before .before .before .pre .3, l .before .before .before .before .before .settle .kept .1 .1 .1 .0, l .loop .inv .0)
+notes-room l = omega (arith, l .before .before .before .before .before .before .before .pre .3, l .before .before .before .settle .ensures .1 .long, l .loop .inv .0)
 
 attained-requires : tie.Need-attained-requires Inv-loop μ-loop
 attained-requires c κs =
     let l = c .before .before .before .before in
-    let s = l .before .before .before .before .before .before .before .before .before .before in
+    let s = l .before .before .before .before .before .before .before in
     let found : 0 < l .loop .found .steps = omega (arith, c .before .before .if1 .taken) in (
       s .pre .0,
       record { plan = s .pre .1 .plan; next = s .args .next .now; prices = _; circling = aimed-circling (here l) found },
@@ -82,35 +82,35 @@ attained-requires c κs =
 
 settle-requires-2 : tie.Need-settle-requires-2 Inv-loop μ-loop
 settle-requires-2 c κs =
-    let l = c .before .before .before .before .before .before .before .before .before in
-    let s = l .before .before .before .before .before .before .before .before .before .before in
+    let l = c .before .before .before .before .before .before .before in
+    let s = l .before .before .before .before .before .before .before in
     let a = here l in
-    let found : 0 < l .loop .found .steps = omega (arith, c .before .before .before .before .before .before .before .if1 .taken) in
-    let f = c .before .before .before .before .attained .ensures .0 (s .pre .1 .plan) (s .args .next .now) _ (aimed-circling a found) in (
+    let found : 0 < l .loop .found .steps = omega (arith, c .before .before .before .before .before .if1 .taken) in
+    let f = c .before .before .attained .ensures .0 (s .pre .1 .plan) (s .args .next .now) _ (aimed-circling a found) in (
       s .pre .0,
       record { plan = s .pre .1 .plan; priced = record { planned = a .planned; holds = a .holds; fraction = f .fraction; room = room l } },
-      omega (arith, notes-room l, c .before .before .before .before .attained .kept .1 .1 .0),
+      omega (arith, notes-room l, c .before .before .attained .ensures .1 .long),
     )
 
 loop-less : tie.Need-loop-less Inv-loop μ-loop
 loop-less c =
-    let l = c .before .before .before .before .before .before .before .before .before .before .before .before .before .before in
-    let s = l .before .before .before .before .before .before .before .before .before .before in
+    let l = c .before .before .before .before .before .before .before .before .before .before in
+    let s = l .before .before .before .before .before .before .before in
     let a = here l in
-    let found : 0 < l .loop .found .steps = omega (arith, c .before .before .before .before .before .before .before .before .before .before .before .before .if1 .taken) in
-    aimed-less a found (c .before .before .before .before .before .before .before .before .before .attained .ensures .0 (s .pre .1 .plan) (s .args .next .now) _ (aimed-circling a found))
+    let found : 0 < l .loop .found .steps = omega (arith, c .before .before .before .before .before .before .before .before .if1 .taken) in
+    aimed-less a found (c .before .before .before .before .before .attained .ensures .0 (s .pre .1 .plan) (s .args .next .now) _ (aimed-circling a found))
 
 loop-again : tie.Need-loop-again Inv-loop μ-loop
 loop-again c =
-    let l = c .before .before .before .before .before .before .before .before .before .before .before .before .before .before in
+    let l = c .before .before .before .before .before .before .before .before .before .before in
     let inv = l .loop .inv in
-    let found : 0 < l .loop .found .steps = omega (arith, c .before .before .before .before .before .before .before .before .before .before .before .before .if1 .taken) in
-    let call = c .before .before .before .before .settle2 in
-    let lower = c .before .before .before .before .before .before .before .before .before .attained in
-    let h = l .before .before .before .before .before .before .before .before .before .before .pre .1 in
+    let found : 0 < l .loop .found .steps = omega (arith, c .before .before .before .before .before .before .before .before .if1 .taken) in
+    let call = c .before .before .settle2 in
+    let lower = c .before .before .before .before .before .attained in
+    let h = l .before .before .before .before .before .before .before .pre .1 in
     let a = here l in
     let f = lower .ensures .0 (h .plan) _ _ (aimed-circling a found) in (
-      call .kept .1 .1 .1 .0 ∙ lower .kept .1 .1 .0 ∙ inv .0,
+      call .ensures .1 .long ∙ lower .ensures .1 .long ∙ inv .0,
       only-trans (inv .1) (only-trans (lower .ensures .1) (call .ensures .1)),
       only-trans (inv .2) (call .ensures .0 (h .plan) (record { planned = a .planned; holds = a .holds; fraction = f .fraction; room = room l }) .only),
       λ P e.
@@ -121,16 +121,13 @@ loop-again c =
     )
 
 same-length : tie.Need-same-length Inv-loop μ-loop
-same-length c = c .before .before .loop .inv .0 ∙ c .before .before .before .before .before .before .before .settle .kept .1 .1 .1 .0
-
-same-length-2 : tie.Need-same-length-2 Inv-loop μ-loop
-same-length-2 c = c .before .before .loop .inv .2 .long ∙ c .before .before .before .before .before .before .before .settle .kept .1 .1 .1 .1 .0
+same-length c = c .before .before .loop .inv .2 .long ∙ c .before .before .before .before .before .settle .kept .1 .1 .1 .1 .0
 
 returns : tie.Need-returns Inv-loop μ-loop
 returns c =
     let l = c .before .before in
-    let call = c .before .before .before .before .before .before .before in
-    let s = c .before .before .before .before .before .before .before .before .before .before .before .before in
+    let call = c .before .before .before .before .before in
+    let s = c .before .before .before .before .before .before .before .before .before in
     let h = s .pre .1 in (
       λ P planned holds. l .loop .inv .3 P (first call P planned holds) .rest (c .if1 .left),
       (
@@ -152,5 +149,4 @@ least-spec =
     loop-less
     loop-again
     same-length
-    same-length-2
     returns)

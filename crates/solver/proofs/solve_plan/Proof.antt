@@ -21,9 +21,6 @@ rules-of-requires c κs = search needs
 note-space-requires : tie.Need-note-space-requires
 note-space-requires c κs = search needs
 
-slice-aggregate-discover : tie.Need-slice-aggregate-discover
-slice-aggregate-discover c = search needs
-
 -- the plan is one with its rules and its table of next states
 planned : (c : tie.After-rules-of) → Planned (planOf (c .before .before .before .args .plan)) (c .rules-of .result) (c .before .before .before .args .plan .next)
 planned c = planned-of (c .before .before .before .args .plan) (c .rules-of .result) (c .before .before .before .pre .1) (c .rules-of .ensures)
@@ -42,19 +39,16 @@ enum-told c = search needs
 enum-known-n : tie.Need-enum-known-n
 enum-known-n c = search needs
 
-slice-aggregate-solve-nodes : tie.Need-slice-aggregate-solve-nodes
-slice-aggregate-solve-nodes c = search needs
-
 solve-nodes-requires : tie.Need-solve-nodes-requires
 solve-nodes-requires c κs =
-    let found = c .before .before .before .before .before .before .before .before .before .before in
-    let rules = c .before .before .before .before .before .before .before .before .before .before .before .before .before .before .before .before in
-    let s = c .before .before .before .before .before .before .before .before .before .before .before .before .before .before .before .before .before .before .before in
+    let found = c .before .before .before .before .before .before .before .before .before in
+    let rules = c .before .before .before .before .before .before .before .before .before .before .before .before .before .before .before in
+    let s = c .before .before .before .before .before .before .before .before .before .before .before .before .before .before .before .before .before .before in
     let p = planOf (s .args .plan) in (
       rules .rules-of .ensures .ruled,
       record { plan = p; planned = planned rules; holds = found .discover .ensures .0 .held _ (c .before .before .before .before .before .n .given .1) p (planned rules) },
       omega (arith, s .pre .2, found .discover .kept .1 .1 .1 .0),
-      omega (arith, notes-long (c .before .before .before .before .before .before .before .before .before .before .before .before .before .before .note-space .ensures), found .discover .kept .1 .1 .0),
+      omega (arith, notes-long (c .before .before .before .before .before .before .before .before .before .before .before .before .before .note-space .ensures), found .discover .ensures .1 .long),
       s .pre .3,
     )
 
@@ -63,9 +57,9 @@ same-length c = search needs
 
 returns : tie.Need-returns
 returns c =
-    let found = c .before .before .before .before .before in
-    let p = planOf (c .before .before .before .before .before .before .before .before .before .before .before .before .before .before .args .plan) in (
-      large p (length (nodes p)) _ _ _ (sym (ap sizeOf (c .enum-told .given .1)) ∙ found .discover .ensures .0 .answer p (planned (c .before .before .before .before .before .before .before .before .before .before .before))) refl refl,
+    let found = c .before .before .before .before in
+    let p = planOf (c .before .before .before .before .before .before .before .before .before .before .before .before .before .args .plan) in (
+      large p (length (nodes p)) _ _ _ (sym (ap sizeOf (c .enum-told .given .1)) ∙ found .discover .ensures .0 .answer p (planned (c .before .before .before .before .before .before .before .before .before .before))) refl refl,
       only-wider (found .discover .ensures .0 .only) 0 linksEnd (omega arith) (omega arith),
     )
 
@@ -77,11 +71,11 @@ same-length-3 c = search needs
 
 returns-2 : tie.Need-returns-2
 returns-2 c =
-    let found = c .before .before .before .before .before .before .before .before .before .before .before .before .before .before .before .before in
-    let p = planOf (c .before .before .before .before .before .before .before .before .before .before .before .before .before .before .before .before .before .before .before .before .before .before .before .before .before .args .plan) in
-    let of = planned (c .before .before .before .before .before .before .before .before .before .before .before .before .before .before .before .before .before .before .before .before .before .before) in
-    let count = c .before .before .before .before .before .before .before .before .before .before .before .n .given .1 in
-    let solved = c .before .before .before .before .before .solve-nodes .ensures in (
+    let found = c .before .before .before .before .before .before .before .before .before .before .before .before .before .before in
+    let p = planOf (c .before .before .before .before .before .before .before .before .before .before .before .before .before .before .before .before .before .before .before .before .before .before .before .args .plan) in
+    let of = planned (c .before .before .before .before .before .before .before .before .before .before .before .before .before .before .before .before .before .before .before .before) in
+    let count = c .before .before .before .before .before .before .before .before .before .before .n .given .1 in
+    let solved = c .before .before .before .before .solve-nodes .ensures in (
       small p (length (nodes p)) _ _ _ _ (sym (ap sizeOf count) ∙ found .discover .ensures .0 .answer p of)
           (solved .0 p of (found .discover .ensures .0 .held _ count p of)),
       only-trans (only-wider (found .discover .ensures .0 .only) 0 linksEnd (omega arith) (omega arith))
@@ -94,11 +88,9 @@ solve-plan-spec =
     (tie.spec
     rules-of-requires
     note-space-requires
-    slice-aggregate-discover
     discover-requires
     enum-told
     enum-known-n
-    slice-aggregate-solve-nodes
     solve-nodes-requires
     same-length
     returns

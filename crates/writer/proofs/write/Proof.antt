@@ -19,19 +19,19 @@ few : (c : tie.Start) → c .args .n ≤ maxNodes
 few c = count-few (c .pre .1 .solvable .solving)
 
 cast-write-head : tie.Need-cast-write-head
-cast-write-head c = record { fits = omega (arith, few (c .before .before .before .before)) }
+cast-write-head c = record { fits = omega (arith, few (c .before .before .before)) }
 
 write-head-requires : tie.Need-write-head-requires
-write-head-requires c κs = omega (arith, c .before .before .before .before .pre .4)
+write-head-requires c κs = omega (arith, c .before .before .before .pre .4)
 
 write-potentials-requires : tie.Need-write-potentials-requires
 write-potentials-requires c κs =
-    let start = c .before .before .before .before .before .before .before .before in
+    let start = c .before .before .before .before .before .before .before in
     (few start, start .pre .2, omega (arith, few start, start .pre .4, c .before .before .before .write-head .kept .0))
 
 -- the head and the potentials are written
 abbrev first : tie.After-write-potentials → tie.Start
-first c = c .before .before .before .before .before .before .before .before .before
+first c = c .before .before .before .before .before .before .before .before
 
 size : (c : tie.After-write-potentials) → length (c .write-potentials .last .1 .1 .0) ≡ length (first c .args .out .now)
 size c = c .write-potentials .kept .1 .1 .0 ∙ c .before .before .before .before .write-head .kept .0
@@ -104,24 +104,21 @@ room c =
 
 write-end-requires-2 : tie.Need-write-end-requires-2
 write-end-requires-2 c κs =
-    let w = c .before .before .before .before .before in
+    let w = c .before .before .before in
     omega (arith, w .write-cycle .ensures .0, room w, first (second w) .pre .4, full-size w)
 
 add-result-2 : tie.Need-add-result-2
 add-result-2 c =
-    let w = c .before .before .before .before .before .before .before .before in
+    let w = c .before .before .before .before .before .before in
     record { fits = omega (arith, w .write-cycle .ensures .0, room w) }
 
 same-length-2 : tie.Need-same-length-2
-same-length-2 c = c .before .before .before .before .before .before .before .before .write-cycle .kept .1 .1 .0
-
-same-length-3 : tie.Need-same-length-3
-same-length-3 c = c .before .before .write-end2 .kept .0 ∙ full-size (c .before .before .before .before .before .before .before .before)
+same-length-2 c = c .before .before .write-end2 .kept .0 ∙ full-size (c .before .before .before .before .before .before)
 
 returns-2 : tie.Need-returns-2
 returns-2 c =
     let end = c .before .before .write-end2 in
-    let w = c .before .before .before .before .before .before .before .before in
+    let w = c .before .before .before .before .before .before in
     let start = first (second w) in
     let a = start .args in
     let middle = w .write-cycle .last .1 .1 .1 .1 .0 in
@@ -153,5 +150,4 @@ write-spec =
     write-end-requires-2
     add-result-2
     same-length-2
-    same-length-3
     returns-2)

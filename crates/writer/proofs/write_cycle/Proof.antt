@@ -21,7 +21,7 @@ step-at-requires c κs = search needs
 cast-write-cycle-head : tie.Need-cast-write-cycle-head
 cast-write-cycle-head c =
     let call = c .before .before in
-    let start = call .before .before .before .before in
+    let start = call .before .before .before in
     let turns = start .pre .1 .turns in
     let node = ap (λ (s : Taken). s .node) (call .step-at .ensures) in
     record { fits = omega (arith, node, turns .below 0 (start .pre .2), turns .holds .rows .index .few) }
@@ -44,15 +44,12 @@ add-result c = search needs
 same-length : tie.Need-same-length
 same-length c = search needs
 
-same-length-2 : tie.Need-same-length-2
-same-length-2 c = search needs
-
 returns : tie.Need-returns
 returns c =
-    let call = c .before .before .before .before in
+    let call = c .before .before in
     let head = call .before .before .before .before .before in
     let step = head .before .before .before in
-    let start = step .before .before .before .before in
+    let start = step .before .before .before in
     let a = start .args in (
       refl,
       (
@@ -86,5 +83,4 @@ write-cycle-spec =
     mul-result
     add-result
     same-length
-    same-length-2
     returns)
