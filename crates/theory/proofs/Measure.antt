@@ -12,7 +12,7 @@ use Rattle.model.specs.Lists.{one}
 use Rattle.words.proofs.Signed.{up-add, natAbs-is, ≤ℤ-iff, <ℤ-iff, ≤ℤ-trans}
 use Rattle.theory.specs.Search.{changed, share, left, count, High}
 use Rattle.theory.proofs.Integers.{dn-none}
-use Rattle.theory.proofs.Sums.{sum-same, sum-most, sum-less}
+use Rattle.theory.proofs.Sums.{sum-same, sum-less}
 use Rattle.theory.proofs.Bits.{one-lt}
 use Rattle.theory.proofs.Upward.{changed-at, changed-off}
 
@@ -32,17 +32,6 @@ left-less b n known dist v z h low high less =
     (λ k j q. ap₂ (share b) (changed-off known v true k q) (changed-off dist v z k q))
     (subst (λ (s : ℕ). s < share b (known v) (dist v)) (sym (ap₂ (share b) (changed-at known v true v refl) (changed-at dist v z v refl)))
     (share-less b (known v) (dist v) z low high less))
-
--- a number adds at most what an unknown one does
-share-most : (b : ℕ) (k : Bool) (z : ℤ) → (k ≡ true → (z ≤ℤ pos b) × (pos 0 ≤ℤ (z +ℤ pos b))) → share b k z ≤ 2 * b + 1
-share-most b true z range =
-    omega
-    (arith, dn-none (z +ℤ pos b) (range refl .1), natAbs-is (z +ℤ pos b), up-add z (pos b), ≤ℤ-iff z (pos b) .0 (range refl .0))
-share-most b false z range = omega arith
-
-pub left-most : (b n : ℕ) (known : ℕ → Bool) (dist : ℕ → ℤ) →
-    ((v : ℕ) → v < n → known v ≡ true → (dist v ≤ℤ pos b) × (pos 0 ≤ℤ (dist v +ℤ pos b))) → left b n known dist ≤ n * (2 * b + 1)
-left-most b n known dist range = sum-most (λ v. share b (known v) (dist v)) n (2 * b + 1) (λ v h. share-most b (known v) (dist v) (range v h))
 
 -- functions that are the same below n have the same measure
 pub left-same : (b n : ℕ) (known known′ : ℕ → Bool) (dist dist′ : ℕ → ℤ) → ((x : ℕ) → x < n → known x ≡ known′ x) →

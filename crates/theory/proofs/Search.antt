@@ -13,7 +13,7 @@ use Rattle.words.proofs.Signed.{≤ℤ-iff, <ℤ-iff, ≤ℤ-trans}
 use Rattle.theory.specs.Search.{above, Before, changed, Taken, trail, Path, Within, State, remaining, Quiet, Later, Done, Search}
 use Rattle.theory.proofs.Upward.{before-first, changed-at, changed-off, known-stays}
 use Rattle.theory.proofs.Tree.{Settled, tree-start, tree-settled, tree-cycle, tree-least, tree-same, tree-relax, changed-lower}
-use Rattle.theory.proofs.Measure.{left-less, left-most, left-same, high-start, high-most, high-same, high-relax}
+use Rattle.theory.proofs.Measure.{left-less, left-same, high-start, high-most, high-same, high-relax}
 
 -- v is reached from u by the label l at the distance z, and waits
 abbrev pub relaxed : State → ℕ → ℕ → ℕ → ℤ → State
@@ -111,10 +111,6 @@ module _ (Link : ℕ → ℕ → ℕ → ℤ → Type 0) where
       InRange n c (s .dist v)
   search-within {n} {c} {s} r light v h e =
       (high-most n c (s .known) (s .dist) (r .high) v h e, tree-least Link (r .tree) c light v h e)
-
-  -- so the measure has a bound
-  pub remaining-most : {n c : ℕ} {s : State} → Search Link n c s → Within Link n c → remaining n c s ≤ n * (2 * (n * c) + 1)
-  remaining-most {n} {c} {s} r light = left-most (n * c) n (s .known) (s .dist) (search-within r light)
 
   module _ {n c : ℕ} {s : State} (r : Search Link n c s) where
     -- a state that is the same below n

@@ -1,8 +1,8 @@
 -- Laws of the sum of f 0 to f (n − 1).
 -- Assumes nothing.
 use mathlib.Core.Path.{_≡_, refl, sym, _∙_, ap, ap₂, subst}
-use Prim.Native.Nat.{ℕ, zero, suc, _+_, _*_, _<_, _≤_}
-use native.Mathlib.Nat.{add-zero, add-suc, suc-mul, not-suc-le-zero}
+use Prim.Native.Nat.{ℕ, zero, suc, _+_, _<_, _≤_}
+use native.Mathlib.Nat.{add-zero, add-suc, not-suc-le-zero}
 use native.Mathlib.Decide.{ℕ-discrete}
 use native.Mathlib.Omega.{arith}
 use Rattle.model.specs.Lists.{sum}
@@ -16,11 +16,6 @@ sum-same f g (suc n) h = ap₂ (λ a b. a + b) (sum-same f g n (λ k l. h k (ome
 pub sum-zero : (f : ℕ → ℕ) (n : ℕ) → ((k : ℕ) → k < n → f k ≡ 0) → sum f n ≡ 0
 sum-zero f zero h = refl
 sum-zero f (suc n) h = omega (arith, sum-zero f n (λ k l. h k (omega arith)), h n (omega arith))
-
--- a sum of numbers up to b
-pub sum-most : (f : ℕ → ℕ) (n b : ℕ) → ((k : ℕ) → k < n → f k ≤ b) → sum f n ≤ n * b
-sum-most f zero b h = omega arith
-sum-most f (suc n) b h = omega (arith, sum-most f n b (λ k l. h k (omega arith)), h n (omega arith), suc-mul n b)
 
 -- the first number apart
 pub sum-head : (f : ℕ → ℕ) (n : ℕ) → sum f (suc n) ≡ f 0 + sum (λ k. f (suc k)) n
