@@ -6,6 +6,8 @@ use Prim.Native.Nat.{ℕ}
 use lib.ListN.{length, take}
 use Rattle.model.specs.Limits.{workRoom, certificateRoom}
 use Rattle.model.specs.Solve.{solve}
+use Rattle.solver.specs.declared.Answer.{Answer}
+use Rattle.solver.specs.Promise.{Solves}
 use Rattle.solve_text.specs.Bytes.{inBytes, inPasses, Puts}
 
 -- r says whether the bytes begin with the head
@@ -27,11 +29,13 @@ pub record PassesLine (plan : List ℕ) (n : ℕ) : Type 0 where
   pub after : List ℕ
   pub written : Puts inPasses (solve plan workRoom certificateRoom) before after n
 
--- r says whether the output begins with the head, once the solve call was lent so many bytes and what it tells has its line
-pub record Called (plan head : List ℕ) (lent room : ℕ) (r : Bool) : Type 0 where
+-- the solve call was lent this work memory and this output, and left them so; what it tells has its line; and r says whether the output then
+-- begins with the head
+pub record Called (plan head work work′ out out′ : List ℕ) (r : Bool) : Type 0 where
+  pub answer : Answer
+  pub solves : Solves plan work work′ out out′ answer
   pub before : List ℕ
   pub after : List ℕ
   pub size : ℕ
-  pub written : Puts inPasses (solve plan lent room) before after size
-  pub output : List ℕ
-  pub begins : Begins output head r
+  pub written : Puts inPasses (solve plan (length work) (length out)) before after size
+  pub begins : Begins out′ head r

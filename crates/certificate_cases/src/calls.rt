@@ -4,8 +4,8 @@ use super::solves;
 use libc::STDOUT_FILENO;
 ghost use mathlib.Core.Path.{_≡_};
 ghost use mathlib.Core.List.{List};
-ghost use Prim.Native.Nat.{ℕ};
-ghost use lib.ListN.{length};
+ghost use Prim.Native.Nat.{ℕ, min};
+ghost use lib.ListN.{length, replicate};
 ghost use Rattle.io.specs.Counts.{Counts};
 ghost use Rattle.certificate_cases.specs.Heads.{Called};
 
@@ -14,6 +14,7 @@ const MOST: usize = 65544;
 
 // Memory to lend.
 fn memory() -> [u8; MOST]
+    ensures { λ r. ⌜ r ≡ replicate 65544 0 ⌝ }
     ensures { λ r. ⌜ 65544 ≡ length r ⌝ }
 {
     [0; MOST]
@@ -21,6 +22,7 @@ fn memory() -> [u8; MOST]
 
 // A number of bytes of the memory, as far as there are.
 fn lent(n: u64, memory: &[u8]) -> usize
+    ensures { λ r. ⌜ r ≡ min n (length (now (memory .entry))) ⌝ }
     ensures { λ r. ⌜ Counts r (now (memory .entry)) ⌝ }
 {
     let most = memory.len();
@@ -33,7 +35,7 @@ fn lent(n: u64, memory: &[u8]) -> usize
 
 // Writes what the solve call tells and whether its output begins with the head, and answers the latter.
 fn write_call(plan: &[u8], head: &[u8], work: &mut [u8], out: &mut [u8]) -> bool
-    ensures { λ r. ⌜ Called (now (plan .entry)) (now (head .entry)) (length (now (work .entry))) (length (now (out .entry))) r ⌝ }
+    ensures { λ r. ⌜ Called (now (plan .entry)) (now (head .entry)) (now (work .entry)) (now (work .exit)) (now (out .entry)) (now (out .exit)) r ⌝ }
 {
     let mut line = [0u8; 32];
     let n = solve_text::put_passes_in(&mut line, plan, work, out);
@@ -43,7 +45,7 @@ fn write_call(plan: &[u8], head: &[u8], work: &mut [u8], out: &mut [u8]) -> bool
 
 // Reads a plan, a head and two numbers of eight bytes, and writes both lines.
 pub fn call_case(file: i32) -> bool
-    ensures { λ r. ⌜ ((plan : List ℕ) × (head : List ℕ) × (work : ℕ) × (room : ℕ) × Called plan head work room r) ⌝ }
+    ensures { λ r. ⌜ ((plan head work work′ out out′ : List ℕ) × Called plan head work work′ out out′ r) ⌝ }
 {
     let mut plan = io::large_buffer();
     let mut head = io::large_buffer();
