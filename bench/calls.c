@@ -1,5 +1,6 @@
 /* Calls the library as a C program does: solves case B, checks the certificate, traces labels 2, 1, 0 and 3, 0, gives task 1 a gap of
-   two slots, combines case B with that plan, and sees that refusals leave memory as it was. */
+   two slots, combines case B with that plan, sends it back to the first edition and forth again, and sees that refusals leave memory as it
+   was. */
 #include <stdio.h>
 #include <string.h>
 
@@ -13,6 +14,8 @@ static uint8_t certificate[JOVNETAL_CERTIFICATE_ROOM];
 static uint8_t slots[JOVNETAL_TRACE_ROOM];
 static uint8_t apart[JOVNETAL_PLAN_ROOM];
 static uint8_t both[JOVNETAL_PLAN_ROOM];
+static uint8_t first[JOVNETAL_FIRST_PLAN_ROOM];
+static uint8_t again[JOVNETAL_PLAN_ROOM];
 
 static int failures;
 
@@ -36,6 +39,8 @@ int main(void) {
     static const uint8_t traced[] = {2, 0, 0, 1, 0, 1, 0, 0, 0};
     static const uint8_t in_vain[] = {1, 0, 1, 2, 0, 0};
     static const uint8_t gap[] = {1, 1, 1, 0, 1, 1, 2, 2, 0, 3, 2, 1, 3, 2, 4, 0, 0, 0, 4, 0, 1, 1, 4, 0, 2, 0, 4, 0, 3, 1, 4, 1, 0, 0, 4, 1, 2, 0, 5};
+    static const uint8_t old[] = {1, 1, 1, 1, 1, 2, 2, 3, 2, 1, 3, 1, 4, 0, 0, 0, 4, 0, 1, 0, 4, 0, 2, 0, 4, 0, 3, 0, 5};
+    static const uint8_t wide[] = {1, 1, 9, 0, 1, 2, 1, 3, 1, 5};
     static const uint8_t other[] = {1, 1, 1, 0, 1, 2, 1, 3, 1, 5};
     uint64_t numbers[4] = {7, 7, 7, 7};
     uint64_t passes[1] = {7};
@@ -76,6 +81,19 @@ int main(void) {
     n = jovnetal_combine(plan, sizeof plan, gap, sizeof gap, both, sizeof both);
     expect(n == sizeof gap && memcmp(both, gap, sizeof gap) == 0, "a plan that admits all, with one that keeps a gap, keeps the gap");
     expect(all(both + n, sizeof both - n, 7), "bytes past the combined plan are as they were");
+
+    memset(first, 7, sizeof first);
+    expect(jovnetal_back(wide, sizeof wide, first, sizeof first) == JOVNETAL_REFUSED + 16, "a window of nine slots is refused with 16");
+    expect(jovnetal_back(plan, sizeof plan, first, sizeof first - 1) == JOVNETAL_REFUSED + 11, "short output is refused with 11");
+    expect(all(first, sizeof first, 7), "and both leave the output as it was");
+    n = jovnetal_back(plan, sizeof plan, first, sizeof first);
+    expect(n == sizeof old && memcmp(first, old, sizeof old) == 0, "case B goes back to the first edition");
+    expect(all(first + n, sizeof first - n, 7), "bytes past the plan sent back are as they were");
+    memset(again, 7, sizeof again);
+    expect(jovnetal_forth(plan, sizeof plan, again, sizeof again) == JOVNETAL_REFUSED + 4, "a long-read plan sent forth is refused");
+    n = jovnetal_forth(first, n, again, sizeof again);
+    expect(n == sizeof plan && memcmp(again, plan, sizeof plan) == 0, "and forth again it is the same bytes");
+    expect(all(again + n, sizeof again - n, 7), "bytes past the plan sent forth are as they were");
 
     printf("C: p/q = %llu/%llu, %s\n", (unsigned long long)numbers[0], (unsigned long long)numbers[1], failures ? "FAILED" : "all as said");
     return failures != 0;

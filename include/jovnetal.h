@@ -14,11 +14,13 @@
 extern "C" {
 #endif
 
-/* The least bytes to lend: work memory, and the output of a certificate, of a trace and of a plan. With fewer the refusal is 11. */
+/* The least bytes to lend: work memory, and the output of a certificate, of a trace, of a plan, and of a plan in the first edition. With
+   fewer the refusal is 11. */
 #define JOVNETAL_WORK_ROOM 65536
 #define JOVNETAL_CERTIFICATE_ROOM 19471
 #define JOVNETAL_TRACE_ROOM 12288
 #define JOVNETAL_PLAN_ROOM 1049
+#define JOVNETAL_FIRST_PLAN_ROOM 1045
 
 /* A call that writes bytes answers their number, or the number of the refusal and this. */
 #define JOVNETAL_REFUSED 65536
@@ -56,6 +58,17 @@ uint64_t jovnetal_gap(const uint8_t *plan, size_t plan_length, uint64_t task, ui
    Memory: bytes of out past the last one written keep what they had; after a refusal all do. */
 uint64_t jovnetal_combine(const uint8_t *first, size_t first_length, const uint8_t *second, size_t second_length,
                           uint8_t *out, size_t out_length);
+
+/* Writes a plan of the first edition to out in the long-read edition, which the other calls take: the same tasks, policy, states and arcs.
+   Answers the number of bytes written, or JOVNETAL_REFUSED + n: 11, 1 to 4 as the first edition has them.
+   Memory: bytes of out past the last one written keep what they had; after a refusal all do. */
+uint64_t jovnetal_forth(const uint8_t *plan, size_t plan_length, uint8_t *out, size_t out_length);
+
+/* Writes a plan of the long-read edition to out in the first. Sent forth and back, or back and forth, a plan is the same bytes.
+   Answers the number of bytes written, or JOVNETAL_REFUSED + n: 11 (below JOVNETAL_FIRST_PLAN_ROOM), 1 to 4, 16 for a window above 8 or a
+   value above 255.
+   Memory: bytes of out past the last one written keep what they had; after a refusal all do. */
+uint64_t jovnetal_back(const uint8_t *plan, size_t plan_length, uint8_t *out, size_t out_length);
 
 #ifdef __cplusplus
 }

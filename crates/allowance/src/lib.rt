@@ -4,6 +4,7 @@ use node::Node;
 ghost use mathlib.Core.Path.{_≡_};
 ghost use mathlib.Core.Bool.{true, cond};
 ghost use lib.Signed.{leZ};
+ghost use Rattle.model.specs.Edition.{longReads};
 ghost use Rattle.model.specs.Lists.{all};
 ghost use Rattle.model.specs.Check as check-model;
 ghost use Rattle.certificate.specs.View.{certificateOf, IsRead};
@@ -24,8 +25,8 @@ fn within_limit(z: i64) -> bool
 
 // Whether every potential lies within the limit.
 pub fn within_limits(s: &[u8], parts: Parts) -> bool
-    requires { ⌜ IsRead (now s) parts ⌝ }
-    ensures { λ b. ⌜ b ≡ all check-model.withinLimit (certificateOf (now (s .entry)) parts .potentials) ⌝ }
+    requires { ⌜ IsRead longReads (now s) parts ⌝ }
+    ensures { λ b. ⌜ b ≡ all check-model.withinLimit (certificateOf longReads (now (s .entry)) parts .potentials) ⌝ }
 {
     let n = parts.count;
     let mut i = 0;
@@ -47,8 +48,8 @@ fn smaller(z: i64, m: i64) -> i64
 
 // The start node's potential less the smallest.
 pub fn allowance(s: &[u8], parts: Parts) -> u64
-    requires { ⌜ IsRead (now s) parts × (all check-model.withinLimit (certificateOf (now s) parts .potentials) ≡ true) ⌝ }
-    ensures { λ r. ⌜ r ≡ check-model.allowance (certificateOf (now (s .entry)) parts .potentials) ⌝ }
+    requires { ⌜ IsRead longReads (now s) parts × (all check-model.withinLimit (certificateOf longReads (now s) parts .potentials) ≡ true) ⌝ }
+    ensures { λ r. ⌜ r ≡ check-model.allowance (certificateOf longReads (now (s .entry)) parts .potentials) ⌝ }
 {
     let n = parts.count;
     let first = certificate::potential(s, 0);

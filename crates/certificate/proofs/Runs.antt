@@ -14,11 +14,11 @@ use lib.ListN.{length, getD, take, drop, length-map, length-drop}
 use lib.Seq.{drop-drop, getD-drop}
 use Rattle.model.specs.Lists.{upFrom}
 use Rattle.model.specs.Bytes.{number, signed, part}
-use Rattle.model.specs.Edition.{longReads}
-use Rattle.model.specs.Certificate.{Step, Parsed, consParsed, has, readPotentials, masksAt, readSteps}
+use Rattle.model.specs.Edition.{Edition}
+use Rattle.model.specs.Certificate.{Step, Parsed, consParsed, has, readPotentials, stepWidth, masksAt, readSteps}
 use Rattle.model.proofs.Lists.{length-upFrom, getD-table, upFrom-append}
 use Rattle.model.proofs.Plan.{both}
-use Rattle.certificate.specs.View.{potentialCommand, stepCommand, potentialWidth, potentialSize, stepSize, potentialIn, stepIn, items}
+use Rattle.certificate.specs.View.{potentialCommand, stepCommand, potentialWidth, potentialSize, potentialIn, stepIn, items}
 
 module _ {A : Type 0} (item : ℕ → A) (from size : ℕ) where
   pub items-length : (n : ℕ) → length (items item from size n) ≡ n
@@ -31,7 +31,7 @@ module _ {A : Type 0} (item : ℕ → A) (from size : ℕ) where
   items-at n i d h = getD-table (λ j. item (from + size * j)) n i d h
 
   -- one item more
-  items-more : (n : ℕ) → items item from size (suc n) ≡ items item from size n ++ (item (from + size * n) ∷ [])
+  pub items-more : (n : ℕ) → items item from size (suc n) ≡ items item from size n ++ (item (from + size * n) ∷ [])
   unfolding items
   items-more n =
       ap (λ (k : ℕ). map (λ i. item (from + size * i)) (upFrom 0 k)) (sym (add-one n))
@@ -134,30 +134,30 @@ module _ (bs : List ℕ) (at : ℕ) where
 
 -- ---- the steps
 
-module _ (bs : List ℕ) (at : ℕ) where
+module _ (e : Edition) (bs : List ℕ) (at : ℕ) where
   -- what is read after the command
   abbrev more : ℕ → Option (Parsed (List Step))
-  more m = consParsed (record { label = getD (drop at bs) 1 0; masks = masksAt longReads (drop at bs) }) (readSteps longReads m (drop stepSize (drop at bs)))
+  more m = consParsed (record { label = getD (drop at bs) 1 0; masks = masksAt e (drop at bs) }) (readSteps e m (drop (stepWidth e) (drop at bs)))
 
-  pub step-next : has (drop at bs) stepCommand 1 ≡ true → stepSize ≤ length bs - at → (m : ℕ) →
-      readSteps longReads (suc m) (drop at bs) ≡ consParsed (stepIn bs at) (readSteps longReads m (drop (at + stepSize) bs))
+  pub step-next : has (drop at bs) stepCommand 1 ≡ true → stepWidth e ≤ length bs - at → (m : ℕ) →
+      readSteps e (suc m) (drop at bs) ≡ consParsed (stepIn e bs at) (readSteps e m (drop (at + stepWidth e) bs))
   unfolding readSteps
-  step-next e h m =
-      let here : eqb (getD (drop at bs) 0 0) stepCommand ≡ true = sym (has-one stepCommand refl (drop at bs)) ∙ e in
-      let room : leb stepSize (length (drop at bs)) ≡ true = le-leb stepSize (length (drop at bs)) (rw length-drop h) in
+  step-next is h m =
+      let here : eqb (getD (drop at bs) 0 0) stepCommand ≡ true = sym (has-one stepCommand refl (drop at bs)) ∙ is in
+      let room : leb (stepWidth e) (length (drop at bs)) ≡ true = le-leb (stepWidth e) (length (drop at bs)) (rw length-drop h) in
       (λ i. cond (here i) (cond (room i) (more m) none) (some (record { value = []; rest = drop at bs })))
-      ∙ (λ i. consParsed (record { label = getD-drop at bs 1 0 i; masks = masksAt longReads (drop at bs) }) (readSteps longReads m (drop-drop stepSize at bs i)))
+      ∙ (λ i. consParsed (record { label = getD-drop at bs 1 0 i; masks = masksAt e (drop at bs) }) (readSteps e m (drop-drop (stepWidth e) at bs i)))
 
-  pub step-fault : has (drop at bs) stepCommand 1 ≡ true → length bs - at < stepSize → (m : ℕ) → readSteps longReads (suc m) (drop at bs) ≡ none
+  pub step-fault : has (drop at bs) stepCommand 1 ≡ true → length bs - at < stepWidth e → (m : ℕ) → readSteps e (suc m) (drop at bs) ≡ none
   unfolding readSteps
-  step-fault e h m =
-      let here : eqb (getD (drop at bs) 0 0) stepCommand ≡ true = sym (has-one stepCommand refl (drop at bs)) ∙ e in
-      let room : leb stepSize (length (drop at bs)) ≡ false = lt-leb stepSize (length (drop at bs)) (rw length-drop h) in
+  step-fault is h m =
+      let here : eqb (getD (drop at bs) 0 0) stepCommand ≡ true = sym (has-one stepCommand refl (drop at bs)) ∙ is in
+      let room : leb (stepWidth e) (length (drop at bs)) ≡ false = lt-leb (stepWidth e) (length (drop at bs)) (rw length-drop h) in
       λ i. cond (here i) (cond (room i) (more m) none) (some (record { value = []; rest = drop at bs }))
 
-  pub step-none : has (drop at bs) stepCommand 1 ≡ false → (m : ℕ) → readSteps longReads m (drop at bs) ≡ some (record { value = []; rest = drop at bs })
+  pub step-none : has (drop at bs) stepCommand 1 ≡ false → (m : ℕ) → readSteps e m (drop at bs) ≡ some (record { value = []; rest = drop at bs })
   unfolding readSteps
-  step-none e zero = refl
-  step-none e (suc m) =
-      let gone : eqb (getD (drop at bs) 0 0) stepCommand ≡ false = sym (has-one stepCommand refl (drop at bs)) ∙ e in
-      λ i. cond (gone i) (cond (leb stepSize (length (drop at bs))) (more m) none) (some (record { value = []; rest = drop at bs }))
+  step-none is zero = refl
+  step-none is (suc m) =
+      let gone : eqb (getD (drop at bs) 0 0) stepCommand ≡ false = sym (has-one stepCommand refl (drop at bs)) ∙ is in
+      λ i. cond (gone i) (cond (leb (stepWidth e) (length (drop at bs))) (more m) none) (some (record { value = []; rest = drop at bs }))

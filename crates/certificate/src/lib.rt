@@ -6,15 +6,16 @@ ghost use mathlib.Core.Logic.{_⊎_};
 ghost use mathlib.Core.Option.{some};
 ghost use Prim.Native.Nat.{_+_, _*_, _^_, _≤_, _<_};
 ghost use lib.ListN.{length, drop};
-ghost use Rattle.model.specs.Limits.{maxSteps};
+ghost use Rattle.model.specs.Edition as edition-model;
 ghost use Rattle.model.specs.Edition.{longReads};
 ghost use Rattle.model.specs.Bytes.{number, part};
 ghost use Rattle.model.specs.Check as check-model;
 ghost use Rattle.model.specs.Certificate as model;
+ghost use Rattle.node.specs.Edition.{editionOf};
 ghost use Rattle.words.specs.Packed.{unpacked};
-ghost use Rattle.certificate.specs.View.{headSize, potentialSize, stepSize, potentialIn, stepIn, certificateOf, inPlace, runOf, Inside, IsRead, HasPotential, stepAt, endedAt, cycleFrom};
+ghost use Rattle.certificate.specs.View.{MasksLegible, headSize, potentialSize, potentialIn, certificateOf, inPlace, runOf, Inside, StepsRead, IsRead, HasPotential, stepAt, endedAt, cycleFrom};
 
-// The bytes of the head, of a potential, of the cycle's start and of a step, each with its command.
+// The bytes of the head, of a potential, of the cycle's start and of a long-read step, each with its command.
 pub const HEAD_SIZE: usize = 11;
 
 pub const POTENTIAL_SIZE: usize = 9;
@@ -160,11 +161,18 @@ fn potentials(s: &[u8], from: Cursor, n: usize) -> Run
     Run::Items(i, cursor)
 }
 
-// The steps from the cursor on, at most so many as a cycle has.
-fn steps(s: &[u8], from: Cursor) -> Run
+// The bytes of a step in an edition, with its command.
+fn step_size(edition: Edition) -> usize
+    requires { ⌜ MasksLegible edition ⌝ }
+    ensures { λ r. ⌜ r ≡ model.stepWidth (editionOf edition) ⌝ }
+{
+    2 + edition.mask_width * Node::MAX_TASKS
+}
+
+// The steps of this size from the cursor on, at most so many as a cycle has.
+fn steps(s: &[u8], from: Cursor, size: usize) -> Run
     requires { ⌜ from .at ≤ length (now s) ⌝ }
-    ensures { λ r. ⌜ Inside (now (s .entry)) (from .at) stepSize r ⌝ }
-    ensures { λ r. ⌜ runOf (now (s .entry)) (stepIn (now (s .entry))) (from .at) stepSize r ≡ model.readSteps longReads maxSteps (drop (from .at) (now (s .entry))) ⌝ }
+    ensures { λ r. ⌜ ((e : edition-model.Edition) → size ≡ model.stepWidth e → StepsRead e (now (s .entry)) (from .at) r) ⌝ }
 {
     let mut i = 0;
     let mut cursor = from;
@@ -172,10 +180,10 @@ fn steps(s: &[u8], from: Cursor) -> Run
         if !has_at(s, cursor.at, 0x14, 1) {
             return Run::Items(i, cursor);
         }
-        if s.len() - cursor.at < STEP_SIZE {
+        if s.len() - cursor.at < size {
             return Run::Fault;
         }
-        cursor = past(cursor, STEP_SIZE);
+        cursor = past(cursor, size);
         i += 1;
     }
     Run::Items(i, cursor)
@@ -197,16 +205,16 @@ fn ended(s: &[u8], cursor: Cursor, parts: Parts) -> Form
 }
 
 // The certificate whose cycle starts at the cursor, after so many potentials.
-fn cycle(s: &[u8], p: u32, q: u32, count: usize, cursor: Cursor) -> Form
-    requires { ⌜ (cursor .at ≡ headSize + potentialSize * count) × (cursor .at ≤ length (now s)) × (q ≡ 0 → ⊥) ⌝ }
-    ensures { λ r. ⌜ r ≡ inPlace (cycleFrom (now (s .entry)) p q count (cursor .at)) ⌝ }
+fn cycle(edition: Edition, s: &[u8], p: u32, q: u32, count: usize, cursor: Cursor) -> Form
+    requires { ⌜ MasksLegible edition × (cursor .at ≡ headSize + potentialSize * count) × (cursor .at ≤ length (now s)) × (q ≡ 0 → ⊥) ⌝ }
+    ensures { λ r. ⌜ r ≡ inPlace (cycleFrom (editionOf edition) (now (s .entry)) p q count (cursor .at)) ⌝ }
 {
     if !has_at(s, cursor.at, 0x13, CYCLE_SIZE) {
         return Form::Fault;
     }
     let node = operand_at(s, cursor.at + 1, 2) as usize;
     let from = past(cursor, CYCLE_SIZE);
-    let Run::Items(n, end) = steps(s, from) else {
+    let Run::Items(n, end) = steps(s, from, step_size(edition)) else {
         return Form::Fault;
     };
     if n == 0 {
@@ -226,9 +234,10 @@ fn cycle(s: &[u8], p: u32, q: u32, count: usize, cursor: Cursor) -> Form
     )
 }
 
-// The certificate that the bytes are.
-pub fn read(s: &[u8]) -> Form
-    ensures { λ r. ⌜ r ≡ inPlace (model.readCertificate (now (s .entry))) ⌝ }
+// The certificate that the bytes of an edition are.
+pub fn read_in(edition: Edition, s: &[u8]) -> Form
+    requires { ⌜ MasksLegible edition ⌝ }
+    ensures { λ r. ⌜ r ≡ inPlace (model.readCertificateIn (editionOf edition) (now (s .entry))) ⌝ }
 {
     let start = Cursor { at: 0 };
     if !has_at(s, start.at, 0x11, HEAD_SIZE) {
@@ -247,7 +256,7 @@ pub fn read(s: &[u8]) -> Form
         return Form::Fault;
     };
     if q != 0 {
-        return cycle(s, p, q, count, cursor);
+        return cycle(edition, s, p, q, count, cursor);
     }
     ended(
         s,
@@ -263,6 +272,13 @@ pub fn read(s: &[u8]) -> Form
     )
 }
 
+// The certificate that the bytes of the long-read edition are.
+pub fn read(s: &[u8]) -> Form
+    ensures { λ r. ⌜ r ≡ inPlace (model.readCertificate (now (s .entry))) ⌝ }
+{
+    read_in(Edition::long_reads(), s)
+}
+
 // The potential i of a certificate.
 pub fn potential(s: &[u8], i: usize) -> i64
     requires { ⌜ HasPotential (now s) i ⌝ }
@@ -273,8 +289,8 @@ pub fn potential(s: &[u8], i: usize) -> i64
 
 // The label of the step j.
 pub fn step_label(s: &[u8], parts: Parts, j: usize) -> u8
-    requires { ⌜ IsRead (now s) parts × (j < parts .steps) ⌝ }
-    ensures { λ r. ⌜ r ≡ stepAt (certificateOf (now (s .entry)) parts .steps) j .label ⌝ }
+    requires { ⌜ IsRead longReads (now s) parts × (j < parts .steps) ⌝ }
+    ensures { λ r. ⌜ r ≡ stepAt (certificateOf longReads (now (s .entry)) parts .steps) j .label ⌝ }
 {
     let from = parts.from;
     s[from + STEP_SIZE * j + 1]
@@ -282,8 +298,8 @@ pub fn step_label(s: &[u8], parts: Parts, j: usize) -> u8
 
 // The masks of the step j, packed.
 pub fn step_masks(s: &[u8], parts: Parts, j: usize) -> u64
-    requires { ⌜ IsRead (now s) parts × (j < parts .steps) ⌝ }
-    ensures { λ r. ⌜ unpacked r ≡ stepAt (certificateOf (now (s .entry)) parts .steps) j .masks ⌝ }
+    requires { ⌜ IsRead longReads (now s) parts × (j < parts .steps) ⌝ }
+    ensures { λ r. ⌜ unpacked r ≡ stepAt (certificateOf longReads (now (s .entry)) parts .steps) j .masks ⌝ }
 {
     let from = parts.from;
     words::read_u64(s, from + STEP_SIZE * j + 2)

@@ -3,16 +3,16 @@
 use mathlib.Core.Path.{_≡_, refl, sym, ap, ap₂, _∙_}
 use mathlib.Core.Bool.{cond}
 use mathlib.Core.List.{List, [], _∷_, _++_, append-assoc, append-nil}
-use Prim.Native.Nat.{ℕ, _+_, _^_, _≤_, _<_}
+use Prim.Native.Nat.{ℕ, _+_, _*_, _^_, _≤_, _<_}
 use native.Mathlib.Omega.{arith}
 use lib.Dec.{eqb}
 use lib.IntN.{ℤ}
 use lib.ListN.{length, set, length-set, length-append}
 use Rattle.model.specs.Lists.{flatMap}
 use Rattle.model.specs.Limits.{maxTasks}
-use Rattle.model.specs.Edition.{longReads}
+use Rattle.model.specs.Edition.{Edition, longReads}
 use Rattle.model.specs.Bytes.{bytes, overwrite}
-use Rattle.model.specs.Certificate.{Certificate, Step, stepBytes, certificateBytesIn, certificateBytes}
+use Rattle.model.specs.Certificate.{Certificate, Step, stepBytes, stepWidth, certificateBytesIn}
 use Rattle.model.proofs.Lists.{flatMap-append, flatMap-length}
 use Rattle.words.proofs.Numbers.{bytes-length}
 use Rattle.words.proofs.Memory.{overwrite-cons, overwrite-join}
@@ -23,11 +23,11 @@ use Rattle.certificate.specs.View.{headCommand, stepCommand, headSize, potentia
 use Rattle.certificate_bytes.specs.Pieces.{headBytes, nodeBytes, packedStep, endBytes}
 
 -- one after another they are the certificate's bytes
-pub certificate-pieces : (c : Certificate) →
-    certificateBytes c ≡ headBytes (c .p) (c .q) (length (c .potentials)) ++ flatMap potentialBytes (c .potentials)
-    ++ cond (eqb (c .q) 0) [] (nodeBytes (c .node) ++ flatMap (stepBytes longReads) (c .steps)) ++ endBytes
+pub certificate-pieces : (e : Edition) (c : Certificate) →
+    certificateBytesIn e c ≡ headBytes (c .p) (c .q) (length (c .potentials)) ++ flatMap potentialBytes (c .potentials)
+    ++ cond (eqb (c .q) 0) [] (nodeBytes (c .node) ++ flatMap (stepBytes e) (c .steps)) ++ endBytes
 unfolding certificateBytesIn
-certificate-pieces c = refl
+certificate-pieces e c = refl
 
 -- ---- their lengths
 
@@ -37,11 +37,21 @@ head-length p q n = simp (length-append, bytes-length)
 pub potential-length : (z : ℤ) → length (potentialBytes z) ≡ potentialSize
 potential-length z = simp bytes-length
 
+pub potentials-length : (zs : List ℤ) → length (flatMap potentialBytes zs) ≡ potentialSize * length zs
+potentials-length zs = flatMap-length potentialBytes potentialSize zs potential-length
+
+-- the head and the potentials
+pub front-length : (p q n : ℕ) (zs : List ℤ) → length (headBytes p q n ++ flatMap potentialBytes zs) ≡ headSize + potentialSize * length zs
+front-length p q n zs =
+    omega (arith, length-append (headBytes p q n) (flatMap potentialBytes zs), head-length p q n, potentials-length zs)
+
 pub node-length : (v : ℕ) → length (nodeBytes v) ≡ cycleSize
 node-length v = simp bytes-length
 
-pub step-length : (s : Step) → length (s .masks) ≡ maxTasks → length (stepBytes longReads s) ≡ stepSize
-step-length s e = omega (arith, e, flatMap-length (bytes 2) 2 (s .masks) (bytes-length 2))
+pub step-length : (e : Edition) (s : Step) → length (s .masks) ≡ maxTasks → length (stepBytes e s) ≡ stepWidth e
+step-length e s four =
+    let k = e .maskWidth in
+    omega (arith, flatMap-length (bytes k) k (s .masks) (bytes-length k) ∙ ap (λ (n : ℕ). k * n) four)
 
 -- ---- written one after another
 
@@ -83,4 +93,4 @@ step-written m at label masks small fits =
     written = flatMap (bytes 2) (unpacked masks)
 
     size : length (stepBytes longReads (packedStep label masks)) ≡ stepSize
-    size = step-length (packedStep label masks) (fields-length maxTasks masks)
+    size = step-length longReads (packedStep label masks) (fields-length maxTasks masks)

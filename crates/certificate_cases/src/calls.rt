@@ -13,7 +13,7 @@ ghost use Rattle.certificate_cases.specs.Heads.{Called};
 const MOST: usize = 65544;
 
 // Memory to lend.
-fn memory() -> [u8; MOST]
+pub fn memory() -> [u8; MOST]
     ensures { λ r. ⌜ r ≡ replicate 65544 0 ⌝ }
     ensures { λ r. ⌜ 65544 ≡ length r ⌝ }
 {
@@ -21,7 +21,7 @@ fn memory() -> [u8; MOST]
 }
 
 // A number of bytes of the memory, as far as there are.
-fn lent(n: u64, memory: &[u8]) -> usize
+pub fn lent(n: u64, memory: &[u8]) -> usize
     ensures { λ r. ⌜ r ≡ min n (length (now (memory .entry))) ⌝ }
     ensures { λ r. ⌜ Counts r (now (memory .entry)) ⌝ }
 {

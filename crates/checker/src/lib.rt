@@ -11,6 +11,7 @@ use refusals::Refusal;
 ghost use mathlib.Core.Path.{_≡_};
 ghost use Prim.Native.Nat.{_≤_};
 ghost use lib.ListN.{length};
+ghost use Rattle.model.specs.Edition.{longReads};
 ghost use Rattle.model.specs.Bytes.{Only};
 ghost use Rattle.model.specs.Certificate.{readCertificate};
 ghost use Rattle.model.specs.Check as model-check;
@@ -49,8 +50,8 @@ fn verdict(
     notes: &mut [u32; graph::NOTE_ROOM],
     m: &[u8],
 ) -> Answer
-    requires { ⌜ Ruled (graph .rules) × Held (graph .rules) (now next) (now m) (graph .n) × IsRead (now s) parts × (noteRoom ≤ length (now notes)) ⌝ }
-    ensures { λ r. ⌜ ((P : model.Plan) → Planned P (graph .rules) (now (next .entry)) → Holds P (tasksIn (graph .rules)) (now (m .entry)) (graph .n) → answerOf r ≡ model-check.verdict P (certificateOf (now (s .entry)) parts)) ⌝ }
+    requires { ⌜ Ruled (graph .rules) × Held (graph .rules) (now next) (now m) (graph .n) × IsRead longReads (now s) parts × (noteRoom ≤ length (now notes)) ⌝ }
+    ensures { λ r. ⌜ ((P : model.Plan) → Planned P (graph .rules) (now (next .entry)) → Holds P (tasksIn (graph .rules)) (now (m .entry)) (graph .n) → answerOf r ≡ model-check.verdict P (certificateOf longReads (now (s .entry)) parts)) ⌝ }
     ensures { λ _. ⌜ NotesFree (now (notes .entry)) (now (notes .exit)) ⌝ }
 {
     let rules = graph.rules;

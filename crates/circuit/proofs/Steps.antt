@@ -174,7 +174,7 @@ abbrev pub edgeBytes : Edge → List ℕ
 edgeBytes e = stepBytes longReads (stepOf e)
 
 pub edge-length : (e : Edge) → length (edgeBytes e) ≡ stepSize
-edge-length e = step-length (stepOf e) (padded-length (e .masks))
+edge-length e = step-length longReads (stepOf e) (padded-length (e .masks))
 
 pub edges-bytes : (es : List Edge) → flatMap edgeBytes es ≡ flatMap (stepBytes longReads) (map stepOf es)
 edges-bytes [] = refl

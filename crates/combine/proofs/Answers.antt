@@ -17,6 +17,7 @@ use Rattle.model.specs.Refusals.{outOfRange, shortMemory, tooManyPairs}
 use Rattle.model.specs.Plan as model
 use Rattle.model.specs.Plan.{PlanAnswer, sound, readPlan}
 use Rattle.model.specs.PlanBytes.{planBytes, arcsOf}
+use Rattle.model.proofs.Calls.{room-short, by-plan}
 use Rattle.model.specs.Combine.{Pair, starts, samePair, pairsNext, pairs, manyPairs, numberedNext, combined, sameTask, combineIn, combine, AdmitsBoth}
 use Rattle.theory.proofs.Combined.{combine-admits, combine-many}
 use Rattle.plan.specs.declared.Fault.the-variants.{OutOfRange}
@@ -28,7 +29,7 @@ use Rattle.refusals.specs.declared.Refusal.the-variants.{TooManyPairs}
 use Rattle.refusals.specs.declared.Answer.{Answer}
 use Rattle.refusals.specs.declared.Answer.the-variants.{Refused, Written}
 use Rattle.refusals.specs.Told.{Told}
-use Rattle.refusals.proofs.Told.{told-as, told-refusal, told-written, told-bytes, told-due, room-short, by-plan}
+use Rattle.refusals.proofs.Told.{told-as, told-refusal, told-written, told-bytes, told-due}
 use Rattle.combine.specs.declared.Automaton.{Automaton}
 use Rattle.combine.specs.Pairs.{reachedPairs, IsProduct}
 use Rattle.combine.specs.Promise.{Combines}
@@ -117,7 +118,7 @@ module _ (first second : List ℕ) (lent : ℕ) where
 
   pub by-first : (a : PlanAnswer) → planRoom ≤ lent → readPlan first ≡ a → combine first second lent ≡ withPlan a with-first
   unfolding combine
-  by-first a h e = by-plan planRoom lent with-first first a h e
+  by-first a h e = by-plan planRoom lent with-first (readPlan first) a h e
 
   pub by-both : (P : model.Plan) (b : PlanAnswer) → planRoom ≤ lent → readPlan first ≡ sound P → readPlan second ≡ b →
       combine first second lent ≡ withPlan b (λ Q. combineIn P Q)

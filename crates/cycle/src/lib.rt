@@ -6,6 +6,7 @@ ghost use mathlib.Core.Path.{_≡_};
 ghost use mathlib.Core.Bool.{_&&_};
 ghost use Prim.Native.Nat.{_*_, _<_};
 ghost use lib.Dec.{eqb, ltb};
+ghost use Rattle.model.specs.Edition.{longReads};
 ghost use Rattle.model.specs.Check.{cycleOk};
 ghost use Rattle.model.specs.Graph.{nodes};
 ghost use Rattle.model.specs.Limits.{maxStates};
@@ -39,9 +40,9 @@ fn lost(from: Node) -> Walked
 
 // Where the steps of a certificate lead from a node.
 fn follow(next: &[u8; plan::PAIRS], rules: Rules, s: &[u8], parts: Parts, from: Node) -> Walked
-    requires { ⌜ Ruled rules × TableFits (now next) (rules .count) × IsRead (now s) parts ⌝ }
+    requires { ⌜ Ruled rules × TableFits (now next) (rules .count) × IsRead longReads (now s) parts ⌝ }
     requires { ⌜ Cells (tasksIn rules) cellCount (from .cells) × (from .state < maxStates) × (from .taken < maskCount) ⌝ }
-    ensures { λ r. ⌜ Followed (now (next .entry)) rules (certificateOf (now (s .entry)) parts .steps) from r ⌝ }
+    ensures { λ r. ⌜ Followed (now (next .entry)) rules (certificateOf longReads (now (s .entry)) parts .steps) from r ⌝ }
 {
     let mut at = from;
     let mut kept = 0;
@@ -86,8 +87,8 @@ pub fn holds(
     m: &[u8],
     n: usize,
 ) -> bool
-    requires { ⌜ Ruled rules × Held rules (now next) (now m) n × IsRead (now s) parts ⌝ }
-    ensures { λ b. ⌜ ((P : Plan) → Planned P rules (now (next .entry)) → Holds P (tasksIn rules) (now (m .entry)) n → b ≡ cycleOk P (nodes P) (certificateOf (now (s .entry)) parts)) ⌝ }
+    requires { ⌜ Ruled rules × Held rules (now next) (now m) n × IsRead longReads (now s) parts ⌝ }
+    ensures { λ b. ⌜ ((P : Plan) → Planned P rules (now (next .entry)) → Holds P (tasksIn rules) (now (m .entry)) n → b ≡ cycleOk P (nodes P) (certificateOf longReads (now (s .entry)) parts)) ⌝ }
 {
     if parts.q == 0 {
         return true;

@@ -1,15 +1,18 @@
 -- An answer as one number, and the numbers beside it.
 use mathlib.Core.Path.{_≡_}
 use mathlib.Core.List.{List, [], _∷_}
-use Prim.Native.Nat.{ℕ, _+_, _<_}
+use mathlib.Core.Logic.{_↔_}
+use Prim.Native.Nat.{ℕ, _+_, _≤_, _<_}
 use lib.ListN.{length, take}
 use Rattle.model.specs.Check.{CheckAnswer}
 use Rattle.model.specs.Calls.{Result, Writing, refused, written, resultOf, outputAfter}
 use Rattle.model.specs.Combine.{combine, AdmitsBoth, ManyReached}
+use Rattle.model.specs.Convert.{forth, back, Converted, Unsaid, CarriesOver}
+use Rattle.model.specs.Edition.{Edition, firstEdition, longReads, planRoomIn}
 use Rattle.model.specs.Gap.{isTask, taskGap, HasGap}
-use Rattle.model.specs.Plan.{Plan, sound, readPlan}
-use Rattle.model.specs.PlanBytes.{planBytes}
-use Rattle.model.specs.Refusals.{tooManyPairs}
+use Rattle.model.specs.Plan.{Plan, sound, readPlan, readPlanIn}
+use Rattle.model.specs.PlanBytes.{planBytesIn, planBytes}
+use Rattle.model.specs.Refusals.{tooManyPairs, notInFirst}
 use Rattle.solver.specs.declared.Answer as solver
 use Rattle.solver.specs.declared.Answer.the-variants as solved
 use Rattle.refusals.specs.Numbers.{refusalNumber}
@@ -62,3 +65,18 @@ pub record CombinesAs (first second out out′ : List ℕ) (r : ℕ) : Type 0 wh
   pub tells : TellsAs planBytes (combine first second (length out)) out out′ r
   pub admitted : (P Q : Plan) → readPlan first ≡ sound P → readPlan second ≡ sound Q → r < 65536 → AdmitsBoth P Q (take r out′)
   pub many : (P Q : Plan) → readPlan first ≡ sound P → readPlan second ≡ sound Q → r ≡ 65536 + tooManyPairs → ManyReached P Q
+
+-- a call's from one edition to another: what is due; and bytes that were written are the very plan, which the other call takes back
+pub record ConvertsAs (from to : Edition) (call takenBack : List ℕ → ℕ → Writing Plan) (plan out out′ : List ℕ) (r : ℕ) : Type 0 where
+  pub tells : TellsAs (planBytesIn to) (call plan (length out)) out out′ r
+  pub kept : (P : Plan) → readPlanIn from plan ≡ sound P → r < 65536 → Converted from to takenBack plan (take r out′) P
+
+-- the forth call's: nodes and certificates of the old plan carry over
+pub record ForthAs (plan out out′ : List ℕ) (r : ℕ) : Type 0 where
+  pub converts : ConvertsAs firstEdition longReads forth back plan out out′ r
+  pub carries : (P : Plan) → readPlanIn firstEdition plan ≡ sound P → r < 65536 → CarriesOver P (take r out′)
+
+-- the back call's: with enough output, 16 is told exactly for the sound plans that no bytes of the first edition say
+pub record BackAs (plan out out′ : List ℕ) (r : ℕ) : Type 0 where
+  pub converts : ConvertsAs longReads firstEdition back forth plan out out′ r
+  pub unsaid : (r ≡ 65536 + notInFirst) ↔ ((planRoomIn firstEdition ≤ length out) × Unsaid firstEdition plan)

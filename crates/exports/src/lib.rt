@@ -7,7 +7,7 @@ ghost use Rattle.model.specs.Bytes.{workAfter};
 ghost use Rattle.model.specs.Check.{check};
 ghost use Rattle.model.specs.Limits.{workRoom};
 ghost use Rattle.model.specs.Trace.{trace, traceBytes};
-ghost use Rattle.exports.specs.Codes.{codeOf, checkCode, numbersAfter, TellsAs, SolvesAs, RewritesAs, CombinesAs};
+ghost use Rattle.exports.specs.Codes.{codeOf, checkCode, numbersAfter, TellsAs, SolvesAs, RewritesAs, CombinesAs, ForthAs, BackAs};
 ghost use Rattle.refusals.specs.Told.{resultBy};
 
 // The number of bytes written, or 65,536 and the number of the refusal.
@@ -88,4 +88,20 @@ pub extern "C" fn jovnetal_combine(first: &[u8], second: &[u8], out: &mut [u8]) 
     ensures { λ r. ⌜ CombinesAs (now (first .entry)) (now (second .entry)) (now (out .entry)) (now (out .exit)) r ⌝ }
 {
     code(combine::rewrite(first, second, out))
+}
+
+// The forth call: the number of bytes written, or 65,536 and the number of the refusal.
+#[no_mangle]
+pub extern "C" fn jovnetal_forth(plan: &[u8], out: &mut [u8]) -> u64
+    ensures { λ r. ⌜ ForthAs (now (plan .entry)) (now (out .entry)) (now (out .exit)) r ⌝ }
+{
+    code(convert::forth(plan, out))
+}
+
+// The back call: the number of bytes written, or 65,536 and the number of the refusal.
+#[no_mangle]
+pub extern "C" fn jovnetal_back(plan: &[u8], out: &mut [u8]) -> u64
+    ensures { λ r. ⌜ BackAs (now (plan .entry)) (now (out .entry)) (now (out .exit)) r ⌝ }
+{
+    code(convert::back(plan, out))
 }

@@ -15,6 +15,7 @@ use Rattle.model.specs.Plan as model
 use Rattle.model.specs.Plan.{PlanAnswer, between, readPlan}
 use Rattle.model.specs.PlanBytes.{planBytes}
 use Rattle.model.specs.Gap.{isTask, gapPlan, gapIn, taskGap, HasGap}
+use Rattle.model.proofs.Calls.{room-short, by-plan}
 use Rattle.model.proofs.Plan.{between-below, between-above, between-inside}
 use Rattle.theory.proofs.Gaps.{task-gap-has}
 use Rattle.plan.specs.declared.Plan.{Plan}
@@ -24,7 +25,7 @@ use Rattle.refusals.specs.declared.Refusal.the-variants.{BadGap}
 use Rattle.refusals.specs.declared.Answer.{Answer}
 use Rattle.refusals.specs.declared.Answer.the-variants.{Refused, Written}
 use Rattle.refusals.specs.Told.{Told}
-use Rattle.refusals.proofs.Told.{told-as, told-refusal, told-written, told-bytes, room-short, by-plan}
+use Rattle.refusals.proofs.Told.{told-as, told-refusal, told-written, told-bytes}
 use Rattle.gap.specs.Promise.{Rewrites}
 
 -- ---- the tests on task and gap
@@ -88,4 +89,4 @@ module _ (plan : List ℕ) (task slots lent : ℕ) where
 
   pub by-reading : (a : PlanAnswer) → planRoom ≤ lent → readPlan plan ≡ a → taskGap plan task slots lent ≡ withPlan a gapOf
   unfolding taskGap
-  by-reading a h e = by-plan planRoom lent gapOf plan a h e
+  by-reading a h e = by-plan planRoom lent gapOf (readPlan plan) a h e

@@ -12,7 +12,7 @@ use lib.Dec.{eqb, ltb, leb}
 use lib.ListN.{length, getD, drop, length-drop}
 use lib.Seq.{drop-cons, drop-drop, getD-drop}
 use Rattle.model.specs.Plan.{Arc, isArc, nextIn, Reading, readCommands, readFrom, refusedOr, firstFault, fault, after, width, lastOperand, atEnd, mayFollow, inRange, arcInRange, pairRises, rising, pairBelow, between, unknown, isZero}
-use Rattle.model.specs.Edition.{Edition, longReads, WideEnough, taskWidth}
+use Rattle.model.specs.Edition.{Edition, firstEdition, longReads, WideEnough, taskWidth}
 use Rattle.model.specs.Limits.{maxTasks, maxStates}
 
 pub both : (a b : Bool) → (a && b) ≡ true → (a ≡ true) × (b ≡ true)
@@ -33,7 +33,10 @@ module _ (low n high : ℕ) where
 
 -- ---- editions
 
--- what the bytes of the long-read edition hold
+-- what the bytes of each edition hold
+pub first-wide : WideEnough firstEdition
+first-wide = record { values = omega arith; masks = omega arith }
+
 pub long-wide : WideEnough longReads
 long-wide = record { values = omega arith; masks = omega arith }
 

@@ -6,34 +6,43 @@ use mathlib.Core.List.{List, [], _∷_, _++_, map}
 use mathlib.Core.Option.{Option, none, some}
 use lib.IntN.{ℤ, pos, negsuc}
 use lib.ListN.{length, replicate}
-use Rattle.model.specs.Limits.{workRoom, traceRoom}
+use Rattle.model.specs.Limits.{workRoom, certificateRoom, traceRoom}
+use Rattle.model.specs.Edition.{firstEdition, longReads, planRoomIn}
 use Rattle.model.specs.Lists.{flatMap, upFrom}
 use Rattle.model.specs.Discovery.{found}
-use Rattle.model.specs.Bytes.{number, signed}
+use Rattle.model.specs.Bytes.{number, bytes, signed, complement}
 use Rattle.model.specs.Plan.{Plan, sound, readPlan, readPlanIn, readFrom, firstFault, fault, after, width, lastOperand, mayFollow, inRange, taskInRange, arcInRange}
 use Rattle.model.specs.Slot.{Done, slot, ready, first, key}
 use Rattle.model.specs.Masks.{masksOf}
 use Rattle.model.specs.Graph.{choices, edgeOf, edgesAt, edges, nodes, tooLarge}
-use Rattle.model.specs.Certificate.{Certificate, readCertificate, readCertificateIn, readPotentials, readSteps}
+use Rattle.model.specs.Certificate.{Certificate, certificateBytesIn, certificateBytes, readCertificate, readCertificateIn, readPotentials, readSteps}
 use Rattle.model.specs.Check.{CheckAnswer, check, verdict, fractionOk, gcd, potentialsOk, cycleOk, follow, allowance}
 use Rattle.model.specs.Thousandths.{thousandths}
 use Rattle.model.specs.Passes.{beginning, relaxNode, pass, PassesTo, last, more}
 use Rattle.model.specs.Calls.{Writing, refuses, writes}
 use Rattle.model.specs.Trace.{trace, traceRun}
+use Rattle.model.specs.PlanBytes.{planBytesIn}
+use Rattle.model.specs.Convert.{forth, back, widened}
 
--- what goes in: the bytes of a plan with those of a certificate or with labels, or of a certificate alone; p and q of a share
+-- what goes in: the bytes of a plan with those of a certificate or with labels, or of a certificate alone; p and q of a share; the bytes of
+-- a plan to be sent forth or back, or of a certificate to be widened
 pub data Input : Type 0 where
   checking : List ℕ → List ℕ → Input
   tracing : List ℕ → List ℕ → Input
   potentials : List ℕ → Input
   printing : ℕ → ℕ → Input
+  sending : List ℕ → Input
+  returning : List ℕ → Input
+  widening : List ℕ → Input
 
--- what comes out: the numbers of the checked line; the task that ran and the gain of each slot; the potentials; m; a refusal
+-- what comes out: the numbers of the checked line; the task that ran and the gain of each slot; the potentials; m; bytes;
+-- a refusal
 pub data Output : Type 0 where
   line : (p q n k : ℕ) (m : Option ℕ) → Output
   slots : List (ℕ × ℕ) → Output
   signs : List ℤ → Output
   prints : Option ℕ → Output
+  wrote : List ℕ → Output
   refusal : ℕ → Output
 
 abbrev pub checked : CheckAnswer → Output
@@ -43,6 +52,10 @@ checked (CheckAnswer.share p q n k) = line p q n k (thousandths p q)
 abbrev pub traced : Writing (List Done) → Output
 traced (refuses n) = refusal n
 traced (writes ds) = slots (map (λ d. (d .ran, d .gain)) ds)
+
+abbrev pub written : {A : Type 0} → (A → List ℕ) → Writing A → Output
+written spell (refuses n) = refusal n
+written spell (writes a) = wrote (spell a)
 
 abbrev pub potentialsRead : Option Certificate → Output
 potentialsRead none = signs []
@@ -54,6 +67,9 @@ outcome (checking plan certificate) = checked (check plan certificate workRoom)
 outcome (tracing plan labels) = traced (trace plan labels traceRoom)
 outcome (potentials certificate) = potentialsRead (readCertificate certificate)
 outcome (printing p q) = prints (thousandths p q)
+outcome (sending plan) = written (planBytesIn longReads) (forth plan (planRoomIn longReads))
+outcome (returning plan) = written (planBytesIn firstEdition) (back plan (planRoomIn firstEdition))
+outcome (widening certificate) = written certificateBytes (widened certificate certificateRoom)
 
 pub record Case : Type 0 where
   pub input : Input
@@ -106,16 +122,28 @@ certificateF =
     ++ ((0x13 ∷ 0x00 ∷ 0x00 ∷ 0x14 ∷ 0x01 ∷ 0x03 ∷ 0xff ∷ replicate 6 0x00)
     ++ (flatMap (λ i. 0x14 ∷ replicate 9 0x00) (upFrom 1 9) ++ (0x15 ∷ []))))
 
+-- A and its certificate as the first edition has them: `01 01 01 01 02 01 03 01 04 00 00 00 04 00 01 00 05`
+abbrev pub firstPlanA : List ℕ
+firstPlanA = 0x01 ∷ 0x01 ∷ 0x01 ∷ 0x01 ∷ 0x02 ∷ 0x01 ∷ 0x03 ∷ 0x01 ∷ 0x04 ∷ 0x00 ∷ 0x00 ∷ 0x00 ∷ 0x04 ∷ 0x00 ∷ 0x01 ∷ 0x00 ∷ 0x05 ∷ []
+
+abbrev pub firstCertificateA : List ℕ
+firstCertificateA = 0x11 ∷ 0x00 ∷ 0x00 ∷ 0x00 ∷ 0x01 ∷ 0x00 ∷ 0x00 ∷ 0x00 ∷ 0x01 ∷ 0x00 ∷ 0x01 ∷ 0x12 ∷ 0x00 ∷ 0x00 ∷ 0x00 ∷ 0x00 ∷ 0x00 ∷ 0x00 ∷ 0x00 ∷ 0x00 ∷ 0x13 ∷ 0x00 ∷ 0x00 ∷ 0x14 ∷ 0x01 ∷ 0x01 ∷ 0x00 ∷ 0x00 ∷ 0x00 ∷ 0x15 ∷ []
+
 -- plan D with another task
 abbrev pub withTask : ℕ → ℕ → ℕ → List ℕ
 withTask c d v = 0x01 ∷ c ∷ d ∷ 0x00 ∷ v ∷ 0x02 ∷ 0x01 ∷ 0x03 ∷ 0x01 ∷ 0x05 ∷ []
+
+-- plan D with V 256
+abbrev pub valueAbove : List ℕ
+valueAbove = 0x01 ∷ 0x01 ∷ 0x01 ∷ 0x01 ∷ 0x00 ∷ 0x02 ∷ 0x01 ∷ 0x03 ∷ 0x01 ∷ 0x05 ∷ []
 
 -- plan D with the task five times
 abbrev pub fiveTasks : List ℕ
 fiveTasks = flatMap (λ i. 0x01 ∷ 0x01 ∷ 0x01 ∷ 0x00 ∷ 0x01 ∷ []) (upFrom 1 4) ++ planD
 
 -- "Case B with labels 3, 0 now runs task 1, then task 2, and gains 1, then 0; its fraction becomes 0/1 with m 0"; "1/16 prints 62 and 3/16
--- prints 188", "`none` is kept for 1/0", and 1/3, of which the rest is 1 and no half of 3; "with D 11 in place of D 9"
+-- prints 188", "`none` is kept for 1/0", and 1/3, of which the rest is 1 and no half of 3; "with D 11 in place of D 9". Of our own: A sent forth
+-- and back, long-read bytes sent forth, D 9 and V 256 sent back, D 9 with a fault behind it, and A's certificate widened.
 abbrev pub cases : List Case
 cases =
     (checking planA certificateA gives line 1 1 1 0 (some 1000))
@@ -135,11 +163,18 @@ cases =
     ∷ (checking (withTask 1 1 0) [] gives refusal 4)
     ∷ (checking (withTask 3 2 1) [] gives refusal 4)
     ∷ (checking fiveTasks [] gives refusal 3)
+    ∷ (sending firstPlanA gives wrote planA)
+    ∷ (sending planA gives refusal 4)
+    ∷ (returning planA gives wrote firstPlanA)
+    ∷ (returning (withTask 1 9 1) gives refusal 16)
+    ∷ (returning valueAbove gives refusal 16)
+    ∷ (returning (withTask 1 9 1 ++ (0x05 ∷ [])) gives refusal 3)
+    ∷ (widening firstCertificateA gives wrote certificateA)
     ∷ []
 
 -- the definitions give every case its output
 pub marked : map (λ c. outcome (c .input)) cases ≡ map (λ c. c .output) cases
-unfolding number signed readPlanIn readFrom firstFault fault after width lastOperand mayFollow inRange taskInRange arcInRange slot ready first key masksOf choices edgeOf edgesAt edges found nodes tooLarge readCertificateIn readPotentials readSteps check verdict fractionOk gcd potentialsOk cycleOk follow allowance thousandths trace traceRun
+unfolding number signed readPlanIn readFrom firstFault fault after width lastOperand mayFollow inRange taskInRange arcInRange slot ready first key masksOf choices edgeOf edgesAt edges found nodes tooLarge readCertificateIn readPotentials readSteps check verdict fractionOk gcd potentialsOk cycleOk follow allowance thousandths trace traceRun forth back widened planBytesIn certificateBytesIn bytes complement
 marked = refl
 
 -- ---- the passes of A, B and C, and of a plan whose nodes have to be taken by number

@@ -8,6 +8,10 @@ pub record Edition : Type 0 where
   pub valueWidth : ℕ  -- the bytes of V in a plan
   pub maskWidth : ℕ  -- the bytes of a mask in a certificate's step
 
+-- "1 ≤ C ≤ D ≤ 8, V 1 to 255": V is one byte, and so is each mask in a certificate step
+abbrev pub firstEdition : Edition
+firstEdition = record { window = 8; value = 255; valueWidth = 1; maskWidth = 1 }
+
 -- "V becomes two bytes (1 to 65,535), D goes to 10, and each mask in a certificate step becomes two bytes."
 abbrev pub longReads : Edition
 longReads = record { window = maxWindow; value = maxValue; valueWidth = 2; maskWidth = 2 }

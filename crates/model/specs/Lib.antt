@@ -22,5 +22,6 @@ pub mod Hopeless
 pub mod PlanBytes
 pub mod Gap
 pub mod Combine
+pub mod Convert
 pub mod Text
 pub mod Cases

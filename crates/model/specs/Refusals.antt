@@ -1,4 +1,4 @@
--- The refusals of document 01, each with its number.
+-- The refusals of documents 01 and 02, each with its number.
 use Prim.Native.Nat.{ℕ}
 
 -- The plan's author.
@@ -70,3 +70,7 @@ badGap = 14
 -- 15, more than 16 reachable pairs
 abbrev pub tooManyPairs : ℕ
 tooManyPairs = 15
+
+-- 16, a D above 8 or a V above 255 on the way back to the first edition
+abbrev pub notInFirst : ℕ
+notInFirst = 16

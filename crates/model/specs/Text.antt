@@ -9,8 +9,6 @@ use Rattle.model.specs.Masks.{maskTable}
 use Rattle.model.specs.Slot.{Done}
 use Rattle.model.specs.Check.{CheckAnswer, refused, share}
 use Rattle.model.specs.Thousandths.{thousandths}
-use Rattle.model.specs.Plan.{Plan}
-use Rattle.model.specs.PlanBytes.{planBytes}
 use Rattle.model.specs.Calls.{Writing, refuses, writes}
 
 -- "Numbers are decimal." Each turn takes a digit, so as many turns as the number are enough.
@@ -72,10 +70,10 @@ unfoldable pub traceText : List ℕ → Writing (List Done) → List ℕ
 traceText labels (refuses n) = refusedLine n
 traceText labels (writes ds) = traceHeader ++ traceLines 0 labels ds
 
--- What a program that writes a plan writes: its bytes, or the line of the refusal.
-unfoldable pub planText : Writing Plan → List ℕ
-planText (refuses n) = refusedLine n
-planText (writes P) = planBytes P
+-- What a program that writes a plan or a certificate writes: its bytes, or the line of the refusal.
+unfoldable pub writingText : {A : Type 0} → (A → List ℕ) → Writing A → List ℕ
+writingText spell (refuses n) = refusedLine n
+writingText spell (writes a) = spell a
 
 -- "a small generator program .. prints it in its order, fewest ones first, one decimal number a line"
 unfoldable pub maskText : List ℕ

@@ -42,7 +42,7 @@ impl Node {
     // The labels of a trace.
     pub const MAX_LABELS: usize = 4096;
 
-    // The least work memory, and the most bytes of a trace, of a certificate and of a plan.
+    // The least work memory, and the most bytes of a trace, of a certificate and of a plan, in the long-read edition and in the first.
     pub const WORK_ROOM: usize = 65536;
 
     pub const TRACE_ROOM: usize = 12288;
@@ -50,6 +50,8 @@ impl Node {
     pub const CERTIFICATE_ROOM: usize = 19471;
 
     pub const PLAN_ROOM: usize = 1049;
+
+    pub const FIRST_PLAN_ROOM: usize = 1045;
 
     // The policies.
     pub const EDF: u8 = 1;
@@ -84,6 +86,18 @@ pub struct Edition {
 impl Edition {
     // The bytes of a mask in the long-read edition.
     pub const MASK_WIDTH: usize = 2;
+
+    // The first edition.
+    pub fn first() -> Edition
+        ensures { λ r. ⌜ editionOf r ≡ model.firstEdition ⌝ }
+    {
+        Edition {
+            window: 8,
+            value: 255,
+            value_width: 1,
+            mask_width: 1,
+        }
+    }
 
     // The long-read edition.
     pub fn long_reads() -> Edition

@@ -6,7 +6,7 @@ ghost use lib.ListN.{length};
 ghost use Rattle.model.specs.Calls.{resultOf, outputAfter};
 ghost use Rattle.model.specs.Combine as model-combine;
 ghost use Rattle.model.specs.PlanBytes.{planBytes};
-ghost use Rattle.plan_cases.specs.Lines.{resultLine};
+ghost use Rattle.answer_text.specs.Finish.{resultLine};
 use super::results;
 
 // Writes what the combine call tells and leaves to standard output, and answers the length of the line.

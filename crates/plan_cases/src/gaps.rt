@@ -6,7 +6,7 @@ ghost use lib.ListN.{length};
 ghost use Rattle.model.specs.Calls.{resultOf, outputAfter};
 ghost use Rattle.model.specs.Gap.{taskGap};
 ghost use Rattle.model.specs.PlanBytes.{planBytes};
-ghost use Rattle.plan_cases.specs.Lines.{resultLine};
+ghost use Rattle.answer_text.specs.Finish.{resultLine};
 use super::results;
 
 // Writes what the gap call tells and leaves to standard output, and answers the length of the line.

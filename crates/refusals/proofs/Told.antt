@@ -1,16 +1,13 @@
 -- What a call tells, by what is due.
 -- Assumes nothing.
 use mathlib.Core.Path.{_≡_, refl, sym, ap, _∙_, subst}
-use mathlib.Core.Bool.{Bool, cond}
 use mathlib.Core.List.{List}
-use Prim.Native.Nat.{ℕ, _≤_, _<_}
+use Prim.Native.Nat.{ℕ}
 use native.Mathlib.Omega.{arith}
-use borrow.Author.Tests.{lt-ltb, le-ltb}
 use lib.ListN.{length, take}
 use Rattle.model.specs.Bytes.{overwrite}
-use Rattle.model.specs.Refusals.{shortMemory}
-use Rattle.model.specs.Plan.{Plan, PlanAnswer, readPlan}
-use Rattle.model.specs.Calls.{Writing, written, refuses, writes, withRoom, withPlan, resultOf, outputAfter}
+use Rattle.model.specs.Calls.{Writing, written, refuses, writes, resultOf, outputAfter}
+use Rattle.model.proofs.Calls.{refused-due}
 use Rattle.words.proofs.Memory.{overwrite-first}
 use Rattle.refusals.specs.Numbers.{refusalNumber}
 use Rattle.refusals.specs.Told.{Told}
@@ -60,18 +57,4 @@ module _ {A : Type 0} where
 
   -- a refusal that is told was due
   pub told-due : (spell : A → List ℕ) (due : Writing A) (before after : List ℕ) (r : Refusal) → Told spell due before after (Refused r) → due ≡ refuses (refusalNumber r)
-  told-due spell (refuses m) before after r t = let k = t .answer in cc
-  told-due spell (writes a) before after r t = let k = t .answer in let z : _≡_ {A = ℕ} 0 1 = cc in absurd (omega arith)
-
-  -- the room comes first
-  module _ (room lent : ℕ) (due : Writing A) where
-    pub room-short : lent < room → withRoom room lent due ≡ refuses shortMemory
-    room-short h = ap (λ (b : Bool). cond b (refuses shortMemory) due) (lt-ltb lent room h)
-
-    pub room-enough : room ≤ lent → withRoom room lent due ≡ due
-    room-enough h = ap (λ (b : Bool). cond b (refuses shortMemory) due) (le-ltb lent room h)
-
-  -- and then the plan
-  pub by-plan : (room lent : ℕ) (f : Plan → Writing A) (plan : List ℕ) (a : PlanAnswer) → room ≤ lent → readPlan plan ≡ a →
-      withRoom room lent (withPlan (readPlan plan) f) ≡ withPlan a f
-  by-plan room lent f plan a h e = room-enough room lent (withPlan (readPlan plan) f) h ∙ ap (λ (p : PlanAnswer). withPlan p f) e
+  told-due spell due before after r t = refused-due spell (refusalNumber r) due (sym (t .answer))

@@ -17,6 +17,7 @@ pub enum Refusal {
     NotAdmitted,
     BadGap,
     TooManyPairs,
+    NotInFirst,
 }
 
 // What a call that writes bytes tells: why it wrote none, or how many it wrote.
@@ -43,6 +44,7 @@ impl Refusal {
             Refusal::NotAdmitted => 13,
             Refusal::BadGap => 14,
             Refusal::TooManyPairs => 15,
+            Refusal::NotInFirst => 16,
         }
     }
 }

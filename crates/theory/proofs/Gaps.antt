@@ -66,4 +66,4 @@ pub task-gap-has : (plan : List ℕ) (i g lent : ℕ) (P Q : Plan) → readPlan 
 unfolding taskGap
 task-gap-has plan i g lent P Q r e =
     gap-in P Q (read-sound plan P r) (isTask i) (between 1 i (length (P .tasks))) g
-    (over planRoom lent plan (λ P. gapIn P (isTask i) (between 1 i (length (P .tasks))) g) P Q r e)
+    (over planRoom lent (readPlan plan) (λ P. gapIn P (isTask i) (between 1 i (length (P .tasks))) g) P Q r e)

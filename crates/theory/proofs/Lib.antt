@@ -46,3 +46,4 @@ pub mod Writings
 pub mod Gaps
 pub mod Pairs
 pub mod Combined
+pub mod Converted

@@ -291,7 +291,7 @@ certificate-size e bs c h =
     by few (some r) k f = omega (arith, length-drop 11 bs, potentials-size n (drop 11 bs) r k, rest-size e p q (r .value) c (r .rest) f)
 
 -- a list longer than any certificate is none, so bytes past the longest change no answer
-long-certificate-in : (e : Edition) (bs more : List ℕ) → longestCertificate e < length bs → readCertificateIn e (bs ++ more) ≡ readCertificateIn e bs
+pub long-certificate-in : (e : Edition) (bs more : List ℕ) → longestCertificate e < length bs → readCertificateIn e (bs ++ more) ≡ readCertificateIn e bs
 long-certificate-in e bs more h = none-read (bs ++ more) (omega (arith, length-append bs more)) ∙ sym (none-read bs h)
   where
     none-read : (l : List ℕ) → longestCertificate e < length l → readCertificateIn e l ≡ none

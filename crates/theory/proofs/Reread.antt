@@ -12,7 +12,7 @@ use lib.Dec.{leb, ltb, eqb}
 use lib.IntN.{ℤ}
 use lib.ListN.{length, getD, take, drop, List·getD-eq-default}
 use lib.Seq.{take-at, drop-cons}
-use borrow.Author.Tests.{leb-true, eqb-true}
+use borrow.Author.Tests.{leb-true, eqb-true, eqb-false}
 use Rattle.model.specs.Limits.{maxTasks, maxNodes, maxSteps}
 use Rattle.model.specs.Edition.{Edition}
 use Rattle.model.specs.Lists.{flatMap}
@@ -229,3 +229,63 @@ bytes-read-back e bs c h is =
         bytes-grouped e c
         ∙ (λ i. 0x11 ∷ (bytes 4 (x .isP i) ++ (bytes 4 (x .isQ i) ++ (bytes 2 (length (x .isPotentials i)) ++ (flatMap potentialBytes (x .isPotentials i) ++ x .ends i)))))
         ∙ ap₂ (λ (m : ℕ) l. 0x11 ∷ (bytes 4 p ++ (bytes 4 q ++ (bytes 2 m ++ l)))) (w .1) (w .0) ∙ header-written bs h t
+
+-- ---- the steps of what is read
+
+-- a certificate that is read has no more steps than the limit, and none where q = 0
+pub record Few (c : Certificate) : Type 0 where
+  pub steps : length (c .steps) ≤ maxSteps
+  pub bare : c .q ≡ 0 → (c .node ≡ 0) × (c .steps ≡ [])
+
+module _ (e : Edition) where
+  pub steps-few : (n : ℕ) (bs : List ℕ) (r : Parsed (List Step)) → readSteps e n bs ≡ some r → length (r .value) ≤ n
+  unfolding readSteps
+  steps-few zero bs r h = omega (arith, ap (λ s. length (s .value)) (Option·some-injective _ _ h))
+  steps-few (suc n) bs r h = by (eqb (getD bs 0 0) 0x14) h (steps-few n (drop (stepWidth e) bs))
+    where
+      here : Step
+      here = record { label = getD bs 1 0; masks = masksAt e bs }
+
+      more : Option (Parsed (List Step))
+      more = readSteps e n (drop (stepWidth e) bs)
+
+      by : (b : Bool) → cond b (cond (leb (stepWidth e) (length bs)) (consParsed here more) none) (some (record { value = []; rest = bs })) ≡ some r →
+          ((t : Parsed (List Step)) → more ≡ some t → length (t .value) ≤ n) → length (r .value) ≤ suc n
+      by true k later =
+          let t = cons-some here more r (cond-some (leb (stepWidth e) (length bs)) (consParsed here more) k .1) in
+          omega (arith, later (t .0) (t .1), ap (λ s. length (s .value)) (t .2))
+      by false k later = omega (arith, ap (λ s. length (s .value)) (Option·some-injective _ _ k))
+
+  few-cycle : (p q v : ℕ) (zs : List ℤ) (bs : List ℕ) (c : Certificate) → eqb q 0 ≡ false → (o : Option (Parsed (List Step))) → readSteps e maxSteps bs ≡ o →
+      withSteps p q zs v o ≡ some c → Few c
+  few-cycle p q v zs bs c z none k f = absurd (Option·none-ne-some c f)
+  few-cycle p q v zs bs c z (some r) k f =
+      subst Few (Option·some-injective _ _ (cond-some (isEnd (r .rest) && ltb 0 (length (r .value))) _ f .1))
+      (record { steps = steps-few maxSteps bs r k; bare = λ n. absurd (eqb-false q 0 z n) })
+
+  few-rest : (p q : ℕ) (c : Certificate) (o : Option (Parsed (List ℤ))) → withPotentials e p q o ≡ some c → Few c
+  few-rest p q c none f = absurd (Option·none-ne-some c f)
+  few-rest p q c (some r) f = by (eqb q 0) refl f
+    where
+      bare : Certificate
+      bare = record { p = p; q = q; potentials = r .value; node = 0; steps = [] }
+
+      v : ℕ
+      v = number (part (r .rest) 1 2)
+
+      full : Option Certificate
+      full = withSteps p q (r .value) v (readSteps e maxSteps (drop 3 (r .rest)))
+
+      by : (b : Bool) → eqb q 0 ≡ b → cond b (cond (isEnd (r .rest)) (some bare) none) (cond (has (r .rest) 0x13 3) full none) ≡ some c → Few c
+      by true z k =
+          subst Few (Option·some-injective _ _ (cond-some (isEnd (r .rest)) (some bare) k .1)) (record { steps = omega arith; bare = λ n. (refl, refl) })
+      by false z k = few-cycle p q v (r .value) (drop 3 (r .rest)) c z (readSteps e maxSteps (drop 3 (r .rest))) refl (cond-some (has (r .rest) 0x13 3) full k .1)
+
+  pub read-few : (bs : List ℕ) (c : Certificate) → readCertificateIn e bs ≡ some c → Few c
+  unfolding readCertificateIn
+  read-few bs c h =
+      let n : ℕ = number (part bs 9 2) in
+      let p : ℕ = number (part bs 1 4) in
+      let q : ℕ = number (part bs 5 4) in
+      let zs : Option (Parsed (List ℤ)) = readPotentials n (drop 11 bs) in
+      few-rest p q c zs (cond-some (has bs 0x11 11 && leb 1 n && leb n maxNodes) (withPotentials e p q zs) h .1)

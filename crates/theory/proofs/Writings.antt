@@ -2,13 +2,12 @@
 -- Assumes nothing.
 use mathlib.Core.Path.{_≡_, refl, sym, ap, _∙_}
 use mathlib.Core.Bool.{Bool, true, false, cond}
-use mathlib.Core.List.{List}
 use Prim.Native.Nat.{ℕ}
 use native.Mathlib.Omega.{arith}
 use lib.Dec.{ltb}
 use Rattle.model.specs.Calls.{Writing, refuses, writes, withPlan, withRoom}
 use Rattle.model.specs.Refusals.{shortMemory}
-use Rattle.model.specs.Plan.{Plan, sound, readPlan}
+use Rattle.model.specs.Plan.{Plan, PlanAnswer, sound}
 
 module _ {A : Type 0} where
   -- of two answers the one that is taken writes
@@ -21,7 +20,7 @@ module _ {A : Type 0} where
   passed false n due a e = (refl, e)
 
   -- a call over a plan that is sound
-  pub over : (room lent : ℕ) (plan : List ℕ) (f : Plan → Writing A) (P : Plan) (a : A) → readPlan plan ≡ sound P →
-      withRoom room lent (withPlan (readPlan plan) f) ≡ writes a → f P ≡ writes a
-  over room lent plan f P a r e =
-      sym (ap (λ p. withPlan p f) r) ∙ passed (ltb lent room) shortMemory (withPlan (readPlan plan) f) a e .1
+  pub over : (room lent : ℕ) (read : PlanAnswer) (f : Plan → Writing A) (P : Plan) (a : A) → read ≡ sound P →
+      withRoom room lent (withPlan read f) ≡ writes a → f P ≡ writes a
+  over room lent read f P a r e =
+      sym (ap (λ p. withPlan p f) r) ∙ passed (ltb lent room) shortMemory (withPlan read f) a e .1

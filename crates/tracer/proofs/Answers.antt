@@ -14,6 +14,7 @@ use Rattle.model.specs.Plan.{Plan, PlanAnswer, readPlan}
 use Rattle.model.specs.Schedule.{admits}
 use Rattle.model.specs.Slot.{Done}
 use Rattle.model.specs.Trace.{slots, traceRun, trace, traceBytes}
+use Rattle.model.proofs.Calls as calls
 use Rattle.refusals.specs.declared.Answer.the-variants.{Written}
 use Rattle.refusals.specs.Told.{Told}
 use Rattle.refusals.proofs.Told as told
@@ -46,8 +47,8 @@ module _ (P : Plan) (ls : List ℕ) where
 module _ (plan ls : List ℕ) (lent : ℕ) where
   pub short : lent < traceRoom → trace plan ls lent ≡ refuses shortMemory
   unfolding trace
-  short h = told.room-short traceRoom lent (withPlan (readPlan plan) (λ P. traceRun P ls)) h
+  short h = calls.room-short traceRoom lent (withPlan (readPlan plan) (λ P. traceRun P ls)) h
 
   pub by-plan : (a : PlanAnswer) → traceRoom ≤ lent → readPlan plan ≡ a → trace plan ls lent ≡ withPlan a (λ P. traceRun P ls)
   unfolding trace
-  by-plan a h e = told.by-plan traceRoom lent (λ P. traceRun P ls) plan a h e
+  by-plan a h e = calls.by-plan traceRoom lent (λ P. traceRun P ls) (readPlan plan) a h e

@@ -5,7 +5,7 @@ ghost use lib.ListN.{length, getD, replicate};
 ghost use Rattle.model.specs.Bytes.{number, bytes, signed, complement, part, overwrite};
 
 // The byte at a place.
-fn byte(s: &[u8], at: usize) -> u32
+pub fn byte(s: &[u8], at: usize) -> u32
     requires { ⌜ at < length (now s) ⌝ }
     ensures { λ r. ⌜ (r ≡ getD (now (s .entry)) at 0) × (r < 256) ⌝ }
 {

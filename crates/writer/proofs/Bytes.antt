@@ -10,6 +10,7 @@ use lib.Dec.{eqb}
 use lib.IntN.{ℤ}
 use lib.ListN.{length, length-append}
 use Rattle.model.specs.Bytes.{overwrite}
+use Rattle.model.specs.Edition.{longReads}
 use Rattle.model.specs.Certificate.{Certificate, certificateBytes}
 use Rattle.model.specs.Graph.{Edge}
 use Rattle.model.proofs.Lists.{flatMap-length}
@@ -18,7 +19,7 @@ use Rattle.theory.proofs.Form.{potentialBytes}
 use Rattle.theory.proofs.Settled.{length-distances}
 use Rattle.certificate.specs.View.{headSize, potentialSize, cycleSize, stepSize}
 use Rattle.certificate_bytes.specs.Pieces.{headBytes, nodeBytes, endBytes}
-use Rattle.certificate_bytes.proofs.Pieces.{certificate-pieces, head-length, potential-length, node-length}
+use Rattle.certificate_bytes.proofs.Pieces.{certificate-pieces, head-length, potential-length, potentials-length, front-length, node-length}
 use Rattle.certificate_bytes.proofs.Pieces.{overwrite-then, overwrite-piece}
 use Rattle.graph.proofs.Tables.{table-more}
 use Rattle.links.specs.Links.{linkIn, stateIn}
@@ -27,9 +28,6 @@ use Rattle.circuit.proofs.Steps.{edgeBytes, edge-length, edges-bytes}
 use Rattle.writer.specs.Writer.{distancesIn, potentialsBytes}
 
 -- ---- the lists
-
-potentials-length : (zs : List ℤ) → length (potentialsBytes zs) ≡ potentialSize * length zs
-potentials-length zs = flatMap-length potentialBytes potentialSize zs potential-length
 
 edges-length : (es : List Edge) → length (stepsBytes (map stepOf es)) ≡ stepSize * length es
 edges-length es = ap length (sym (edges-bytes es)) ∙ flatMap-length edgeBytes stepSize es edge-length
@@ -68,19 +66,12 @@ module _ (c : Certificate) {n : ℕ} (count : length (c .potentials) ≡ n) wher
   abbrev front : List ℕ
   front = headBytes (c .p) (c .q) n ++ potentialsBytes (c .potentials)
 
-  front-length : length front ≡ potentialsEnd n
-  front-length =
-      omega (
-        arith,
-        length-append (headBytes (c .p) (c .q) n) (potentialsBytes (c .potentials)),
-        head-length (c .p) (c .q) n,
-        potentials-length (c .potentials),
-        ap (λ (k : ℕ). potentialSize * k) count,
-      )
+  front-ends : length front ≡ potentialsEnd n
+  front-ends = front-length (c .p) (c .q) n (c .potentials) ∙ ap potentialsEnd count
 
   pieces : certificateBytes c ≡ front ++ cond (eqb (c .q) 0) [] (nodeBytes (c .node) ++ stepsBytes (c .steps)) ++ endBytes
   pieces =
-      certificate-pieces c
+      certificate-pieces longReads c
       ∙ ap
       (λ (k : ℕ). headBytes (c .p) (c .q) k ++ potentialsBytes (c .potentials)
       ++ cond (eqb (c .q) 0) [] (nodeBytes (c .node) ++ stepsBytes (c .steps)) ++ endBytes)
@@ -101,13 +92,13 @@ module _ (c : Certificate) {n : ℕ} (count : length (c .potentials) ≡ n) wher
         ∙ ap (λ bs. bs ++ endBytes) (append-nil front)
 
     pub bare-length : length (certificateBytes c) ≡ potentialsEnd n + 1
-    bare-length = omega (arith, ap length bytes-bare, length-append front endBytes, front-length)
+    bare-length = omega (arith, ap length bytes-bare, length-append front endBytes, front-ends)
 
     pub bare-written : (m : List ℕ) → potentialsEnd n + 1 ≤ length m →
         overwrite (fronted (c .p) (c .q) n (c .potentials) m) (potentialsEnd n) endBytes ≡ overwrite m 0 (certificateBytes c)
     bare-written m fits =
         ap (λ x. overwrite x (potentialsEnd n) endBytes) (front-written m (omega (arith, fits)))
-        ∙ overwrite-then m 0 front endBytes (potentialsEnd n) (omega (arith, front-length)) fits
+        ∙ overwrite-then m 0 front endBytes (potentialsEnd n) (omega (arith, front-ends)) fits
         ∙ ap (overwrite m 0) (sym bytes-bare)
 
   -- with a cycle along these edges
@@ -132,13 +123,13 @@ module _ (c : Certificate) {n : ℕ} (count : length (c .potentials) ≡ n) wher
 
     pub full-length : length (certificateBytes c) ≡ cycleEnd n k + 1
     full-length =
-        omega (arith, ap length bytes-full, length-append (front ++ cycle) endBytes, length-append front cycle, front-length, cycle-length)
+        omega (arith, ap length bytes-full, length-append (front ++ cycle) endBytes, length-append front cycle, front-ends, cycle-length)
 
     pub full-written : (m : List ℕ) → cycleEnd n k + 1 ≤ length m →
         overwrite (overwrite (fronted (c .p) (c .q) n (c .potentials) m) (potentialsEnd n) cycle) (cycleEnd n k) endBytes ≡ overwrite m 0 (certificateBytes c)
     full-written m fits =
         ap (λ x. overwrite (overwrite x (potentialsEnd n) cycle) (cycleEnd n k) endBytes) (front-written m (omega (arith, fits)))
         ∙ ap (λ x. overwrite x (cycleEnd n k) endBytes)
-        (overwrite-then m 0 front cycle (potentialsEnd n) (omega (arith, front-length)) (omega (arith, fits, cycle-length)))
-        ∙ overwrite-then m 0 (front ++ cycle) endBytes (cycleEnd n k) (omega (arith, length-append front cycle, front-length, cycle-length)) fits
+        (overwrite-then m 0 front cycle (potentialsEnd n) (omega (arith, front-ends)) (omega (arith, fits, cycle-length)))
+        ∙ overwrite-then m 0 (front ++ cycle) endBytes (cycleEnd n k) (omega (arith, length-append front cycle, front-ends, cycle-length)) fits
         ∙ ap (overwrite m 0) (sym bytes-full)

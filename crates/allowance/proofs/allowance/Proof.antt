@@ -10,6 +10,7 @@ use lib.Signed.{leZ, nonNeg}
 use mir.Syntax.{w64}
 use mir.Val.{Fits, SFits, toZ, ofZ}
 use mir.Facts.{toZ-ofZ, toZ-pos}
+use Rattle.model.specs.Edition.{longReads}
 use Rattle.model.specs.Check.{potentialAt, withinLimit}
 use Rattle.model.specs.Limits.{maxPotential}
 use Rattle.model.specs.Lists.{all}
@@ -28,13 +29,13 @@ abbrev μ-loop : tie.MeasureT-loop
 μ-loop s n first least₀ i₀ least i = n - i
 
 -- the start node's potential less the smallest so far is a number from 0 up, far from overflowing
-difference : (bs : List ℕ) (parts : Parts) → IsRead bs parts → all withinLimit (potentialsIn bs (parts .count)) ≡ true →
+difference : (bs : List ℕ) (parts : Parts) → IsRead longReads bs parts → all withinLimit (potentialsIn bs (parts .count)) ≡ true →
     (z : ℤ) → SFits w64 z → z ≡ potentialAt (potentialsIn bs (parts .count)) 0 → (least i : ℕ) → Lowest (potentialsIn bs (parts .count)) i (toZ w64 least) →
     (k : ℕ) × (toZ w64 (ofZ w64 z) -ℤ toZ w64 least ≡ pos k) × (k ≤ 2 * maxPotential)
     × (k ≡ natAbs (potentialAt (potentialsIn bs (parts .count)) 0 -ℤ toZ w64 least))
 difference bs parts read within z fits first least i low =
     let zs = potentialsIn bs (parts .count) in
-    let range = lowest-range zs within (placed bs (certificateOf bs parts) (read .read) .some) i (toZ w64 least) low in
+    let range = lowest-range zs within (placed longReads bs (certificateOf longReads bs parts) (read .read) .some) i (toZ w64 least) low in
     (range .0, ap (λ (y : ℤ). y -ℤ toZ w64 least) (toZ-ofZ fits ∙ first) ∙ range .1, range .2, sym (ap natAbs (range .1)))
 
 potential-requires : tie.Need-potential-requires Inv-loop μ-loop
@@ -43,9 +44,9 @@ potential-requires c κs =
     let bs = start .args .s .now in
     let parts = start .args .parts in
     record {
-      certificate = certificateOf bs parts;
+      certificate = certificateOf longReads bs parts;
       read = start .pre .0 .read;
-      below = omega (arith, items-length (potentialIn bs) headSize potentialSize (parts .count), placed bs (certificateOf bs parts) (start .pre .0 .read) .some);
+      below = omega (arith, items-length (potentialIn bs) headSize potentialSize (parts .count), placed longReads bs (certificateOf longReads bs parts) (start .pre .0 .read) .some);
     }
 
 loop-holds : tie.Need-loop-holds Inv-loop μ-loop
@@ -54,9 +55,9 @@ loop-holds c =
     let bs = start .args .s .now in
     let parts = start .args .parts in
     let zs = potentialsIn bs (parts .count) in
-    let some = placed bs (certificateOf bs parts) (start .pre .0 .read) .some in
+    let some = placed longReads bs (certificateOf longReads bs parts) (start .pre .0 .read) .some in
     let fits : SFits w64 (c .potential .result) = record { sfits = c .potential .ok } in
-    let first = toZ-ofZ fits ∙ c .potential .ensures (certificateOf bs parts) (start .pre .0 .read) in
+    let first = toZ-ofZ fits ∙ c .potential .ensures (certificateOf longReads bs parts) (start .pre .0 .read) in
     (omega arith, subst (Lowest zs 0) (sym first) (lowest-start zs (start .pre .1) some))
 
 potential-requires-2 : tie.Need-potential-requires-2 Inv-loop μ-loop
@@ -65,7 +66,7 @@ potential-requires-2 c κs =
     let bs = start .args .s .now in
     let parts = start .args .parts in
     record {
-      certificate = certificateOf bs parts;
+      certificate = certificateOf longReads bs parts;
       read = start .pre .0 .read;
       below = omega (arith, items-length (potentialIn bs) headSize potentialSize (parts .count));
     }
@@ -89,7 +90,7 @@ loop-again c =
     let size = items-length (potentialIn bs) headSize potentialSize (parts .count) in
     let l = turn .loop in
     let fits : SFits w64 (c .before .potential2 .result) = record { sfits = c .before .potential2 .ok } in
-    let z = toZ-ofZ fits ∙ c .before .potential2 .ensures (certificateOf bs parts) (start .pre .0 .read) in
+    let z = toZ-ofZ fits ∙ c .before .potential2 .ensures (certificateOf longReads bs parts) (start .pre .0 .read) in
     let found : SFits w64 (c .smaller .result) = record { sfits = c .smaller .ok } in
     let m = toZ-ofZ found ∙ c .smaller .ensures ∙ ap (λ (y : ℤ). cond (leZ y (toZ w64 (l .least))) y (toZ w64 (l .least))) z in
     (omega arith, subst (Lowest zs (l .i + 1)) (sym m) (lowest-next zs (start .pre .1) (l .i) (omega (arith, size)) (toZ w64 (l .least)) (l .inv .1)))
@@ -102,7 +103,7 @@ sub-result c =
     let bs = start .args .s .now in
     let d =
     difference bs (start .args .parts) (start .pre .0) (start .pre .1) (call .potential .result) record { sfits = call .potential .ok }
-    (call .potential .ensures (certificateOf bs (start .args .parts)) (start .pre .0 .read)) (turn .loop .least) (turn .loop .i) (turn .loop .inv .1) in
+    (call .potential .ensures (certificateOf longReads bs (start .args .parts)) (start .pre .0 .read)) (turn .loop .least) (turn .loop .i) (turn .loop .inv .1) in
     subst⁻¹ (SFits w64) (d .1) (record { sfits = omega (arith, d .2) })
 
 cast-result : tie.Need-cast-result Inv-loop μ-loop
@@ -113,7 +114,7 @@ cast-result c =
     let bs = start .args .s .now in
     let d =
     difference bs (start .args .parts) (start .pre .0) (start .pre .1) (call .potential .result) record { sfits = call .potential .ok }
-    (call .potential .ensures (certificateOf bs (start .args .parts)) (start .pre .0 .read)) (turn .loop .least) (turn .loop .i) (turn .loop .inv .1) in
+    (call .potential .ensures (certificateOf longReads bs (start .args .parts)) (start .pre .0 .read)) (turn .loop .least) (turn .loop .i) (turn .loop .inv .1) in
     subst⁻¹ (λ (z : ℤ). T (nonNeg z) × Fits w64 (natAbs z)) (ap (λ (z : ℤ). toZ w64 (ofZ w64 z)) (d .1) ∙ toZ-pos w64 {n = d .0} (omega (arith, d .2))) (tt, record { fits = omega (arith, d .2) })
 
 returns : tie.Need-returns Inv-loop μ-loop
@@ -124,7 +125,7 @@ returns c =
     let bs = start .args .s .now in
     let d =
     difference bs (start .args .parts) (start .pre .0) (start .pre .1) (call .potential .result) record { sfits = call .potential .ok }
-    (call .potential .ensures (certificateOf bs (start .args .parts)) (start .pre .0 .read)) (turn .loop .least) (turn .loop .i) (turn .loop .inv .1) in
+    (call .potential .ensures (certificateOf longReads bs (start .args .parts)) (start .pre .0 .read)) (turn .loop .least) (turn .loop .i) (turn .loop .inv .1) in
     ap natAbs (ap (λ (z : ℤ). toZ w64 (ofZ w64 z)) (d .1) ∙ toZ-pos w64 {n = d .0} (omega (arith, d .2))) ∙ d .3
     ∙ lowest-end (potentialsIn bs (start .args .parts .count)) (start .pre .1) (turn .loop .i)
     (omega (arith, items-length (potentialIn bs) headSize potentialSize (start .args .parts .count))) (toZ w64 (turn .loop .least)) (turn .loop .inv .1)

@@ -9,6 +9,7 @@ use mir.Syntax.{w64}
 use mir.Val.{SFits}
 use mir.Facts.{toZ-ofZ}
 use borrow.Author.Tests.{not-true, not-false}
+use Rattle.model.specs.Edition.{longReads}
 use Rattle.model.specs.Check.{withinLimit}
 use Rattle.model.specs.Lists.{all}
 use Rattle.model.proofs.All.{all-from, all-done}
@@ -32,7 +33,7 @@ potential-requires c κs =
     let bs = start .args .s .now in
     let parts = start .args .parts in
     record {
-      certificate = certificateOf bs parts;
+      certificate = certificateOf longReads bs parts;
       read = start .pre .read;
       below = omega (arith, items-length (potentialIn bs) headSize potentialSize (parts .count));
     }
@@ -50,7 +51,7 @@ returns c =
     let zs = potentialsIn bs (parts .count) in
     let size = items-length (potentialIn bs) headSize potentialSize (parts .count) in
     let fits : SFits w64 (c .before .before .potential .result) = record { sfits = c .before .before .potential .ok } in
-    let z = toZ-ofZ fits ∙ c .before .before .potential .ensures (certificateOf bs parts) (start .pre .read) in
+    let z = toZ-ofZ fits ∙ c .before .before .potential .ensures (certificateOf longReads bs parts) (start .pre .read) in
     let tested = c .before .within-limit .ensures ∙ ap withinLimit z in
     let here = all-from withinLimit zs (pos 0) i (omega (arith, size)) in
     sym (turn .loop .inv .1 ∙ here ∙ ap (λ (b : Bool). b && all withinLimit (drop (i + 1) zs)) (sym tested ∙ not-true _ (c .if1 .taken)))
@@ -71,7 +72,7 @@ loop-again c =
     let zs = potentialsIn bs (parts .count) in
     let size = items-length (potentialIn bs) headSize potentialSize (parts .count) in
     let fits : SFits w64 (c .before .before .potential .result) = record { sfits = c .before .before .potential .ok } in
-    let z = toZ-ofZ fits ∙ c .before .before .potential .ensures (certificateOf bs parts) (start .pre .read) in
+    let z = toZ-ofZ fits ∙ c .before .before .potential .ensures (certificateOf longReads bs parts) (start .pre .read) in
     let tested = c .before .within-limit .ensures ∙ ap withinLimit z in
     let here = all-from withinLimit zs (pos 0) i (omega (arith, size)) in
     (omega arith, turn .loop .inv .1 ∙ here ∙ ap (λ (b : Bool). b && all withinLimit (drop (i + 1) zs)) (sym tested ∙ not-false _ (c .if1 .left)))

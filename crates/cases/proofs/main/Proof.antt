@@ -36,32 +36,17 @@ slice-aggregate-read-full-2 c = search needs
 read-full-requires-2 : tie.Need-read-full-requires-2 Inv-loop μ-loop
 read-full-requires-2 c κs = search needs
 
-array-read-match : tie.Need-array-read-match Inv-loop μ-loop
-array-read-match c = search needs
+array-read-run : tie.Need-array-read-run Inv-loop μ-loop
+array-read-run c = search needs
 
-plan-case-requires : tie.Need-plan-case-requires Inv-loop μ-loop
-plan-case-requires c κs = search needs
+run-requires : tie.Need-run-requires Inv-loop μ-loop
+run-requires c κs = search needs
 
-trace-case-requires : tie.Need-trace-case-requires Inv-loop μ-loop
-trace-case-requires c κs = search needs
+array-read-run-2 : tie.Need-array-read-run-2 Inv-loop μ-loop
+array-read-run-2 c = search needs
 
-check-case-requires : tie.Need-check-case-requires Inv-loop μ-loop
-check-case-requires c κs = search needs
-
-solve-case-requires : tie.Need-solve-case-requires Inv-loop μ-loop
-solve-case-requires c κs = search needs
-
-gap-case-requires : tie.Need-gap-case-requires Inv-loop μ-loop
-gap-case-requires c κs = search needs
-
-combine-case-requires : tie.Need-combine-case-requires Inv-loop μ-loop
-combine-case-requires c κs = search needs
-
-passes-case-requires : tie.Need-passes-case-requires Inv-loop μ-loop
-passes-case-requires c κs = search needs
-
-call-case-requires : tie.Need-call-case-requires Inv-loop μ-loop
-call-case-requires c κs = search needs
+run-requires-2 : tie.Need-run-requires-2 Inv-loop μ-loop
+run-requires-2 c κs = search needs
 
 slice-aggregate-write-all : tie.Need-slice-aggregate-write-all Inv-loop μ-loop
 slice-aggregate-write-all c = search needs
@@ -96,15 +81,10 @@ main-spec =
     loop-holds
     slice-aggregate-read-full-2
     read-full-requires-2
-    array-read-match
-    plan-case-requires
-    trace-case-requires
-    check-case-requires
-    solve-case-requires
-    gap-case-requires
-    combine-case-requires
-    passes-case-requires
-    call-case-requires
+    array-read-run
+    run-requires
+    array-read-run-2
+    run-requires-2
     slice-aggregate-write-all
     write-all-requires
     sub-left

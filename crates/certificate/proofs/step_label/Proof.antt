@@ -5,13 +5,14 @@ use denote.Ref.{now}
 use Prim.Native.Nat.{_+_, _*_, _≤_}
 use native.Mathlib.Omega.{arith}
 use lib.ListN.{length}
+use Rattle.model.specs.Edition.{longReads}
 use Rattle.certificate.specs.View.{stepSize}
 use Rattle.certificate.proofs.Placed.{step-read, step-inside}
 use Rattle.certificate.proofs.step_label.Statement.{statement}
 use Rattle.certificate.proofs.step_label.Tie as tie
 
 inside : (a : tie.Start) → a .args .parts .from + stepSize * a .args .j + stepSize ≤ length (now (a .args .s))
-inside a = step-inside (now (a .args .s)) (a .args .parts) (a .args .j) (a .pre .0) (a .pre .1)
+inside a = step-inside longReads (now (a .args .s)) (a .args .parts) (a .args .j) (a .pre .0) (a .pre .1)
 
 mul-result : tie.Need-mul-result
 mul-result c = omega (arith, inside c)
@@ -26,7 +27,7 @@ shared-slice-read-result : tie.Need-shared-slice-read-result
 shared-slice-read-result c = omega (arith, inside (c .before))
 
 returns : tie.Need-returns
-returns c = let a = c .before in sym (ap (λ s. s .label) (step-read (now (a .args .s)) (a .args .parts) (a .args .j) (a .pre .1)))
+returns c = let a = c .before in sym (ap (λ s. s .label) (step-read longReads (now (a .args .s)) (a .args .parts) (a .args .j) (a .pre .1)))
 
 pub step-label-spec : {M : Type 1} → statement M
 step-label-spec =

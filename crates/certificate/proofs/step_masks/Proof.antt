@@ -5,6 +5,7 @@ use denote.Ref.{now}
 use Prim.Native.Nat.{_+_, _*_, _≤_}
 use native.Mathlib.Omega.{arith}
 use lib.ListN.{length}
+use Rattle.model.specs.Edition.{longReads}
 use Rattle.words.specs.Packed.{unpacked}
 use Rattle.certificate.specs.View.{stepSize}
 use Rattle.certificate.proofs.Placed.{step-read, step-inside, step-packed}
@@ -12,7 +13,7 @@ use Rattle.certificate.proofs.step_masks.Statement.{statement}
 use Rattle.certificate.proofs.step_masks.Tie as tie
 
 inside : (a : tie.Start) → a .args .parts .from + stepSize * a .args .j + stepSize ≤ length (now (a .args .s))
-inside a = step-inside (now (a .args .s)) (a .args .parts) (a .args .j) (a .pre .0) (a .pre .1)
+inside a = step-inside longReads (now (a .args .s)) (a .args .parts) (a .args .j) (a .pre .0) (a .pre .1)
 
 mul-read-u64 : tie.Need-mul-read-u64
 mul-read-u64 c = omega (arith, inside (c .before))
@@ -34,7 +35,7 @@ returns c =
     let at = a .args .parts .from + stepSize * a .args .j in
     ap unpacked (c .read-u64 .ensures)
     ∙ step-packed bs at (λ i. known .shared-slice-known .given i .fits) (inside a)
-    ∙ sym (ap (λ s. s .masks) (step-read bs (a .args .parts) (a .args .j) (a .pre .1)))
+    ∙ sym (ap (λ s. s .masks) (step-read longReads bs (a .args .parts) (a .args .j) (a .pre .1)))
 
 pub step-masks-spec : {M : Type 1} → statement M
 step-masks-spec =

@@ -2,6 +2,7 @@
 use mathlib.Core.Path.{sym, ap, _∙_}
 use borrow.Author.Needs.{needs}
 use Rattle.words.proofs.Free.{only-refl}
+use Rattle.model.specs.Edition.{longReads}
 use Rattle.model.specs.Check.{checkRead}
 use Rattle.certificate.proofs.Placed.{read-as, is-read}
 use Rattle.checker.proofs.check_certificate.Statement.{statement}
@@ -20,12 +21,12 @@ verdict-requires : tie.Need-verdict-requires
 verdict-requires c κs =
     let r = c .before .before .before .before in
     let start = r .before .before .before in
-    (start .pre .0, start .pre .1, is-read (start .args .s .now) (r .read .ensures) (c .before .before .parts .given .1), start .pre .2)
+    (start .pre .0, start .pre .1, is-read longReads (start .args .s .now) (r .read .ensures) (c .before .before .parts .given .1), start .pre .2)
 
 returns : tie.Need-returns
 returns c =
     let r = c .before .before in (
-      λ P p h. sym (ap (checkRead P) (read-as (r .before .before .before .args .s .now) (r .read .ensures) (c .enum-told .given .1))),
+      λ P p h. sym (ap (checkRead P) (read-as longReads (r .before .before .before .args .s .now) (r .read .ensures) (c .enum-told .given .1))),
       only-refl,
     )
 
@@ -34,7 +35,7 @@ returns-2 c =
     let v = c in
     let r = v .before .before .before .before .before in (
       λ P p h. v .verdict .ensures .0 P p h
-          ∙ sym (ap (checkRead P) (read-as (r .before .before .before .args .s .now) (r .read .ensures) (v .before .before .before .parts .given .1))),
+          ∙ sym (ap (checkRead P) (read-as longReads (r .before .before .before .args .s .now) (r .read .ensures) (v .before .before .before .parts .given .1))),
       v .verdict .ensures .1,
     )
 

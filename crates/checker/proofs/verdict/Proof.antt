@@ -6,6 +6,7 @@ use Prim.Native.Nat.{ℕ}
 use borrow.Author.Needs.{needs}
 use borrow.Author.Tests.{not-true, not-false}
 use Rattle.words.proofs.Free.{only-refl}
+use Rattle.model.specs.Edition.{longReads}
 use Rattle.model.specs.Check.{share, withinLimit, fractionOk}
 use Rattle.model.specs.Graph.{nodes}
 use Rattle.model.specs.Lists.{all}
@@ -25,9 +26,9 @@ use Rattle.checker.proofs.verdict.Statement.{statement}
 use Rattle.checker.proofs.verdict.Tie as tie
 
 -- what the potentials are tested against
-tested : (P : Plan) (r : Rules) (next m bs : List ℕ) (n : ℕ) (parts : Parts) → Planned P r next → Holds P (tasksIn r) m n → IsRead bs parts →
-    fractionOk (parts .p) (parts .q) ≡ true → parts .count ≡ n → all withinLimit (certificateOf bs parts .potentials) ≡ true →
-    Test P (certificateOf bs parts) r next m bs (record { p = parts .p; q = parts .q; n = n })
+tested : (P : Plan) (r : Rules) (next m bs : List ℕ) (n : ℕ) (parts : Parts) → Planned P r next → Holds P (tasksIn r) m n → IsRead longReads bs parts →
+    fractionOk (parts .p) (parts .q) ≡ true → parts .count ≡ n → all withinLimit (certificateOf longReads bs parts .potentials) ≡ true →
+    Test P (certificateOf longReads bs parts) r next m bs (record { p = parts .p; q = parts .q; n = n })
 tested P r next m bs n parts planned holds read fraction count within =
     let fits = fraction-fits (parts .p) (parts .q) fraction in
     record {
@@ -48,7 +49,7 @@ fraction-ok-requires c κs = search needs
 returns : tie.Need-returns
 returns c =
     let a = c .before .before .before .before .before .args in (
-      λ P p h. bad-fraction P (certificateOf (a .s .now) (a .parts)) (sym (c .before .fraction-ok .ensures) ∙ not-true _ (c .if1 .taken)),
+      λ P p h. bad-fraction P (certificateOf longReads (a .s .now) (a .parts)) (sym (c .before .fraction-ok .ensures) ∙ not-true _ (c .if1 .taken)),
       only-refl,
     )
 
@@ -57,7 +58,7 @@ returns-2 c =
     let start = c .before .before .before .before .before .before .before in
     let a = start .args in
     let bs = a .s .now in
-    let z = certificateOf bs (a .parts) in
+    let z = certificateOf longReads bs (a .parts) in
     let fraction = sym (c .before .before .before .fraction-ok .ensures) ∙ not-false _ (c .before .before .if1 .left) in
     let size = items-length (potentialIn bs) headSize potentialSize (a .parts .count) in (
       λ P p h. bad-count P z fraction (λ e. c .if2 .taken (sym size ∙ e ∙ held-count (tasksIn (a .graph .rules)) (a .m .now) (a .graph .n) (nodes P) (h .nodes))),
@@ -72,7 +73,7 @@ returns-3 c =
     let start = c .before .before .before .before .before .before .before .before .before in
     let a = start .args in
     let bs = a .s .now in
-    let z = certificateOf bs (a .parts) in
+    let z = certificateOf longReads bs (a .parts) in
     let fraction = sym (c .before .before .before .before .before .fraction-ok .ensures) ∙ not-false _ (c .before .before .before .before .if1 .left) in
     let size = items-length (potentialIn bs) headSize potentialSize (a .parts .count) in
     let count : a .parts .count ≡ a .graph .n = c .before .before .if2 .left in (
@@ -86,7 +87,7 @@ edges-hold-requires c κs =
     let start = c .before .before .before .before .before .before .before .before .before .before in
     let a = start .args in
     let bs = a .s .now in
-    let z = certificateOf bs (a .parts) in
+    let z = certificateOf longReads bs (a .parts) in
     let fraction = sym (c .before .before .before .before .before .before .fraction-ok .ensures) ∙ not-false _ (c .before .before .before .before .before .if1 .left) in
     let size = items-length (potentialIn bs) headSize potentialSize (a .parts .count) in
     let count : a .parts .count ≡ a .graph .n = c .before .before .before .if2 .left in
@@ -102,7 +103,7 @@ returns-4 c =
     let start = c .before .before .before .before .before .before .before .before .before .before .before .before in
     let a = start .args in
     let bs = a .s .now in
-    let z = certificateOf bs (a .parts) in
+    let z = certificateOf longReads bs (a .parts) in
     let fraction = sym (c .before .before .before .before .before .before .before .before .fraction-ok .ensures) ∙ not-false _ (c .before .before .before .before .before .before .before .if1 .left) in
     let size = items-length (potentialIn bs) headSize potentialSize (a .parts .count) in
     let count : a .parts .count ≡ a .graph .n = c .before .before .before .before .before .if2 .left in
@@ -122,7 +123,7 @@ returns-5 c =
     let start = c .before .before .before .before .before .before .before .before .before .before .before .before .before .before in
     let a = start .args in
     let bs = a .s .now in
-    let z = certificateOf bs (a .parts) in
+    let z = certificateOf longReads bs (a .parts) in
     let fraction = sym (c .before .before .before .before .before .before .before .before .before .before .fraction-ok .ensures) ∙ not-false _ (c .before .before .before .before .before .before .before .before .before .if1 .left) in
     let size = items-length (potentialIn bs) headSize potentialSize (a .parts .count) in
     let count : a .parts .count ≡ a .graph .n = c .before .before .before .before .before .before .before .if2 .left in
@@ -145,7 +146,7 @@ returns-6 c =
     let start = c .before .before .before .before .before .before .before .before .before .before .before .before .before .before .before in
     let a = start .args in
     let bs = a .s .now in
-    let z = certificateOf bs (a .parts) in
+    let z = certificateOf longReads bs (a .parts) in
     let fraction = sym (c .before .before .before .before .before .before .before .before .before .before .before .fraction-ok .ensures) ∙ not-false _ (c .before .before .before .before .before .before .before .before .before .before .if1 .left) in
     let size = items-length (potentialIn bs) headSize potentialSize (a .parts .count) in
     let count : a .parts .count ≡ a .graph .n = c .before .before .before .before .before .before .before .before .if2 .left in

@@ -6,6 +6,7 @@ use native.Mathlib.Omega.{arith}
 use lib.ListN.{drop}
 use borrow.Author.Needs.{needs}
 use borrow.Author.Tests.{not-true, not-false}
+use Rattle.model.specs.Edition.{longReads}
 use Rattle.model.specs.Check.{follow}
 use Rattle.model.specs.Limits.{maxTasks, maxValue, maxStates}
 use Rattle.model.specs.Masks.{maskCount}
@@ -25,8 +26,8 @@ abbrev Inv-loop : tie.InvT-loop
 Inv-loop next rules s parts from at₀ kept₀ ideal₀ j₀ at kept ideal j =
     (j ≤ parts .steps) × Cells (tasksIn rules) cellCount (at .cells) × (at .state < maxStates) × (at .taken < maskCount)
     × (kept ≤ j * maxValue) × (ideal ≤ j * (maxTasks * maxValue))
-    × (follow (planBy rules next maxStates) (drop j (certificateOf s parts .steps)) (here (tasksIn rules) at kept ideal)
-    ≡ follow (planBy rules next maxStates) (certificateOf s parts .steps) (here (tasksIn rules) at₀ kept₀ ideal₀))
+    × (follow (planBy rules next maxStates) (drop j (certificateOf longReads s parts .steps)) (here (tasksIn rules) at kept ideal)
+    ≡ follow (planBy rules next maxStates) (certificateOf longReads s parts .steps) (here (tasksIn rules) at₀ kept₀ ideal₀))
 
 abbrev μ-loop : tie.MeasureT-loop
 μ-loop next rules s parts from at₀ kept₀ ideal₀ j₀ at kept ideal j = parts .steps - j
@@ -56,8 +57,8 @@ returns c =
     let start = call .before .before .before .before .before .before .before in
     let a = start .args in
     let bs = a .s .now in
-    let ss = certificateOf bs (a .parts) .steps in
-    let size = items-length (stepIn bs) (a .parts .from) stepSize (a .parts .steps) in
+    let ss = certificateOf longReads bs (a .parts) .steps in
+    let size = items-length (stepIn longReads bs) (a .parts .from) stepSize (a .parts .steps) in
     let named : record { label = call .before .before .step-label .result; masks = unpacked (call .before .step-masks .result) } ≡ stepAt ss (l .j) =
     λ i. record { label = call .before .before .step-label .ensures i; masks = call .before .step-masks .ensures i } in
     let gone = c .lost .ensures in
@@ -82,8 +83,8 @@ add-kept c =
     let start = call .before .before .before .before .before .before .before in
     let bs = start .args .s .now in
     let parts = start .args .parts in
-    let few = placed bs (certificateOf bs parts) (start .pre .0 .2 .read) .fewSteps in
-    let size = items-length (stepIn bs) (parts .from) stepSize (parts .steps) in
+    let few = placed longReads bs (certificateOf longReads bs parts) (start .pre .0 .2 .read) .fewSteps in
+    let size = items-length (stepIn longReads bs) (parts .from) stepSize (parts .steps) in
     let edge = call .edge-by .ensures in
     record { fits = omega (arith, few, size, edge .kept, l .inv .4, call .before .before .before .if1 .taken) }
 
@@ -94,8 +95,8 @@ add-ideal c =
     let start = call .before .before .before .before .before .before .before in
     let bs = start .args .s .now in
     let parts = start .args .parts in
-    let few = placed bs (certificateOf bs parts) (start .pre .0 .2 .read) .fewSteps in
-    let size = items-length (stepIn bs) (parts .from) stepSize (parts .steps) in
+    let few = placed longReads bs (certificateOf longReads bs parts) (start .pre .0 .2 .read) .fewSteps in
+    let size = items-length (stepIn longReads bs) (parts .from) stepSize (parts .steps) in
     let edge = call .edge-by .ensures in
     record { fits = omega (arith, few, size, edge .ideal, l .inv .5, call .before .before .before .if1 .taken) }
 
@@ -106,8 +107,8 @@ add-j c =
     let start = call .before .before .before .before .before .before .before in
     let bs = start .args .s .now in
     let parts = start .args .parts in
-    let few = placed bs (certificateOf bs parts) (start .pre .0 .2 .read) .fewSteps in
-    let size = items-length (stepIn bs) (parts .from) stepSize (parts .steps) in
+    let few = placed longReads bs (certificateOf longReads bs parts) (start .pre .0 .2 .read) .fewSteps in
+    let size = items-length (stepIn longReads bs) (parts .from) stepSize (parts .steps) in
     record { fits = omega (arith, few, size, call .before .before .before .if1 .taken) }
 
 loop-less : tie.Need-loop-less Inv-loop μ-loop
@@ -120,8 +121,8 @@ loop-again c =
     let start = call .before .before .before .before .before .before .before in
     let a = start .args in
     let bs = a .s .now in
-    let ss = certificateOf bs (a .parts) .steps in
-    let size = items-length (stepIn bs) (a .parts .from) stepSize (a .parts .steps) in
+    let ss = certificateOf longReads bs (a .parts) .steps in
+    let size = items-length (stepIn longReads bs) (a .parts .from) stepSize (a .parts .steps) in
     let more = call .before .before .before .if1 .taken in
     let edge = call .edge-by .ensures in
     let named : record { label = call .before .before .step-label .result; masks = unpacked (call .before .step-masks .result) } ≡ stepAt ss (l .j) =
@@ -143,8 +144,8 @@ returns-2 c =
     let l = c .before .before .loop in
     let a = c .before .before .before .before .args in
     let bs = a .s .now in
-    let ss = certificateOf bs (a .parts) .steps in
-    let size = items-length (stepIn bs) (a .parts .from) stepSize (a .parts .steps) in
+    let ss = certificateOf longReads bs (a .parts) .steps in
+    let size = items-length (stepIn longReads bs) (a .parts .from) stepSize (a .parts .steps) in
     record {
       reached =
           sym (steps-done (planBy (a .rules) (a .next .now) maxStates) ss (l .j) (here (tasksIn (a .rules)) (l .at) (l .kept) (l .ideal)) (omega (arith, size, c .if1 .left))) ∙ l .inv .6;

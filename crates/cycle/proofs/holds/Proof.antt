@@ -5,6 +5,7 @@ use native.Mathlib.Omega.{arith}
 use lib.ListN.{length}
 use borrow.Author.Needs.{needs}
 use borrow.Author.Tests.{not-true, not-false}
+use Rattle.model.specs.Edition.{longReads}
 use Rattle.model.specs.Graph.{nodes}
 use Rattle.words.proofs.Memory.{part-length}
 use Rattle.certificate.specs.View.{certificateOf}
@@ -23,12 +24,12 @@ use Rattle.cycle.proofs.holds.Statement.{statement}
 use Rattle.cycle.proofs.holds.Tie as tie
 
 returns : tie.Need-returns
-returns c = let a = c .before .before .before .before .args in λ P p h. cycle-free P (certificateOf (a .s .now) (a .parts)) (c .if1 .taken)
+returns c = let a = c .before .before .before .before .args in λ P p h. cycle-free P (certificateOf longReads (a .s .now) (a .parts)) (c .if1 .taken)
 
 returns-2 : tie.Need-returns-2
 returns-2 c =
     let a = c .before .before .before .before .before .before .args in
-    λ P p h. cycle-outside P (certificateOf (a .s .now) (a .parts)) (c .before .before .if1 .left)
+    λ P p h. cycle-outside P (certificateOf longReads (a .s .now) (a .parts)) (c .before .before .if1 .left)
     (omega (arith, c .if2 .taken, held-count (tasksIn (a .rules)) (a .m .now) (a .n) (nodes P) (h .nodes)))
 
 row-requires : tie.Need-row-requires
@@ -71,7 +72,7 @@ returns-3 c =
     let from = call .before .node-of .result in
     let named = call .before .node-of .ensures ∙ ap nodeIn (call .before .before .row .ensures) in
     let recurs = call .before .before .before .before .before .if1 .left in
-    λ P p h. cycle-lost P (certificateOf bs (a .parts)) recurs (omega (arith, below, held-count ts (a .m .now) (a .n) (nodes P) (h .nodes))) ts from
+    λ P p h. cycle-lost P (certificateOf longReads bs (a .parts)) recurs (omega (arith, below, held-count ts (a .m .now) (a .n) (nodes P) (h .nodes))) ts from
     (ap (nodeOf ts) named ∙ held-node ts (a .m .now) (a .n) (nodes P) (h .nodes) (a .parts .node) below) (call .follow .result) (call .follow .ensures .reached ∙ sym (planned-follow p _ _)) (not-true _ (c .if3 .taken))
 
 row-of-requires : tie.Need-row-of-requires
@@ -100,7 +101,7 @@ returns-4 c =
     let same =
     same-end ts (a .m .now) (a .n) (start .pre .1 .holds .rows) (a .parts .node) below from (walked .at) named (call .follow .ensures .cells) (omega (arith, call .follow .ok))
     (end .result) (end .ensures) (tested .result) (tested .ensures) in
-    λ P p h. cycle-open P (certificateOf bs (a .parts)) recurs (omega (arith, below, held-count ts (a .m .now) (a .n) (nodes P) (h .nodes))) ts from
+    λ P p h. cycle-open P (certificateOf longReads bs (a .parts)) recurs (omega (arith, below, held-count ts (a .m .now) (a .n) (nodes P) (h .nodes))) ts from
     (ap (nodeOf ts) named ∙ held-node ts (a .m .now) (a .n) (nodes P) (h .nodes) (a .parts .node) below) (call .follow .result) (call .follow .ensures .reached ∙ sym (planned-follow p _ _)) (not-false _ (c .before .before .before .before .if3 .left)) (same ∙ not-true _ (c .if4 .taken))
 
 is-tight-requires : tie.Need-is-tight-requires
@@ -123,7 +124,7 @@ returns-5 c =
     let same =
     same-end ts (a .m .now) (a .n) (start .pre .1 .holds .rows) (a .parts .node) below from (walked .at) named (call .follow .ensures .cells) (omega (arith, call .follow .ok))
     (end .result) (end .ensures) (tested .result) (tested .ensures) in
-    λ P p h. c .is-tight .ensures ∙ cycle-closed P (certificateOf bs (a .parts)) recurs (omega (arith, below, held-count ts (a .m .now) (a .n) (nodes P) (h .nodes))) ts from
+    λ P p h. c .is-tight .ensures ∙ cycle-closed P (certificateOf longReads bs (a .parts)) recurs (omega (arith, below, held-count ts (a .m .now) (a .n) (nodes P) (h .nodes))) ts from
     (ap (nodeOf ts) named ∙ held-node ts (a .m .now) (a .n) (nodes P) (h .nodes) (a .parts .node) below) (call .follow .result) (call .follow .ensures .reached ∙ sym (planned-follow p _ _)) (not-false _ (c .before .before .before .before .before .if3 .left)) (same ∙ not-false _ (c .before .if4 .left))
 
 pub holds-spec : {M : Type 1} → statement M

@@ -3,7 +3,7 @@
 use mathlib.Core.Path.{ap, _∙_}
 use lib.ListN.{length}
 use Rattle.model.specs.Calls.{Result}
-use Rattle.plan_cases.specs.Lines.{resultLine}
+use Rattle.answer_text.specs.Finish.{resultLine}
 use borrow.Author.Needs.{needs}
 use Rattle.plan_cases.proofs.combines.write_combined.Statement.{statement}
 use Rattle.plan_cases.proofs.combines.write_combined.Tie as tie

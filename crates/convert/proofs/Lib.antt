@@ -1,0 +1,2 @@
+pub mod Tasks
+pub mod Answers

@@ -1,0 +1,4 @@
+pub mod Answers
+pub mod Front
+pub mod Masks
+pub mod Steps
