@@ -1,6 +1,6 @@
 /* Calls the library as a C program does: solves case B, checks the certificate, traces labels 2, 1, 0 and 3, 0, gives task 1 a gap of
-   two slots, combines case B with that plan, sends it back to the first edition and forth again, and sees that refusals leave memory as it
-   was. */
+   two slots, combines case B with that plan, sends it back to the first edition and forth again, widens and checks a certificate of the first
+   edition, and sees that refusals leave memory as it was. */
 #include <stdio.h>
 #include <string.h>
 
@@ -41,6 +41,9 @@ int main(void) {
     static const uint8_t gap[] = {1, 1, 1, 0, 1, 1, 2, 2, 0, 3, 2, 1, 3, 2, 4, 0, 0, 0, 4, 0, 1, 1, 4, 0, 2, 0, 4, 0, 3, 1, 4, 1, 0, 0, 4, 1, 2, 0, 5};
     static const uint8_t old[] = {1, 1, 1, 1, 1, 2, 2, 3, 2, 1, 3, 1, 4, 0, 0, 0, 4, 0, 1, 0, 4, 0, 2, 0, 4, 0, 3, 0, 5};
     static const uint8_t wide[] = {1, 1, 9, 0, 1, 2, 1, 3, 1, 5};
+    static const uint8_t filed[] = {17, 0, 0, 0, 0, 0, 0, 0, 1, 0, 5, 18, 0, 0, 0, 0, 0, 0, 0, 0, 18, 0, 0, 0, 0, 0, 0, 0, 0, 18, 0, 0, 0, 0, 0, 0,
+                                    0, 0, 18, 0, 0, 0, 0, 0, 0, 0, 1, 18, 0, 0, 0, 0, 0, 0, 0, 1, 19, 0, 4, 20, 2, 0, 0, 0, 0, 20, 2, 0, 3, 0, 0, 21};
+    static const uint8_t steps[] = {20, 2, 0, 0, 0, 0, 0, 0, 0, 0, 20, 2, 0, 0, 0, 3, 0, 0, 0, 0, 21};
     static const uint8_t other[] = {1, 1, 1, 0, 1, 2, 1, 3, 1, 5};
     uint64_t numbers[4] = {7, 7, 7, 7};
     uint64_t passes[1] = {7};
@@ -94,6 +97,16 @@ int main(void) {
     n = jovnetal_forth(first, n, again, sizeof again);
     expect(n == sizeof plan && memcmp(again, plan, sizeof plan) == 0, "and forth again it is the same bytes");
     expect(all(again + n, sizeof again - n, 7), "bytes past the plan sent forth are as they were");
+
+    memset(certificate, 7, sizeof certificate);
+    expect(jovnetal_widen(filed, sizeof filed, certificate, sizeof certificate - 1) == JOVNETAL_REFUSED + 11, "short output is refused with 11");
+    expect(jovnetal_widen(filed, sizeof filed - 1, certificate, sizeof certificate) == JOVNETAL_REFUSED + 6, "a certificate cut off is refused with 6");
+    expect(all(certificate, sizeof certificate, 7), "and both leave the output as it was");
+    n = jovnetal_widen(filed, sizeof filed, certificate, sizeof certificate);
+    expect(n == 80 && memcmp(certificate, filed, 59) == 0 && memcmp(certificate + 59, steps, sizeof steps) == 0, "each mask has two bytes, and all else is as it was");
+    expect(all(certificate + n, sizeof certificate - n, 7), "bytes past the widened certificate are as they were");
+    expect(jovnetal_check(plan, sizeof plan, certificate, n, work, sizeof work, numbers) == 0 && numbers[0] == 0 && numbers[1] == 1,
+           "the certificate is accepted, widened, for the plan sent forth");
 
     printf("C: p/q = %llu/%llu, %s\n", (unsigned long long)numbers[0], (unsigned long long)numbers[1], failures ? "FAILED" : "all as said");
     return failures != 0;

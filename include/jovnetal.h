@@ -70,6 +70,12 @@ uint64_t jovnetal_forth(const uint8_t *plan, size_t plan_length, uint8_t *out, s
    Memory: bytes of out past the last one written keep what they had; after a refusal all do. */
 uint64_t jovnetal_back(const uint8_t *plan, size_t plan_length, uint8_t *out, size_t out_length);
 
+/* Writes a certificate of the first edition to out in the long-read edition, each mask in two bytes. If it passes the check's tests for a plan
+   of the first edition, jovnetal_check accepts it for that plan sent forth, with the same numbers.
+   Answers the number of bytes written, or JOVNETAL_REFUSED + n: 11 (below JOVNETAL_CERTIFICATE_ROOM), 6.
+   Memory: bytes of out past the last one written keep what they had; after a refusal all do. */
+uint64_t jovnetal_widen(const uint8_t *certificate, size_t certificate_length, uint8_t *out, size_t out_length);
+
 #ifdef __cplusplus
 }
 #endif

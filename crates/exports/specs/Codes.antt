@@ -2,15 +2,17 @@
 use mathlib.Core.Path.{_≡_}
 use mathlib.Core.List.{List, [], _∷_}
 use mathlib.Core.Logic.{_↔_}
+use mathlib.Core.Option.{some}
 use Prim.Native.Nat.{ℕ, _+_, _≤_, _<_}
 use lib.ListN.{length, take}
+use Rattle.model.specs.Certificate.{Certificate, certificateBytes, readCertificateIn}
 use Rattle.model.specs.Check.{CheckAnswer}
 use Rattle.model.specs.Calls.{Result, Writing, refused, written, resultOf, outputAfter}
 use Rattle.model.specs.Combine.{combine, AdmitsBoth, ManyReached}
-use Rattle.model.specs.Convert.{forth, back, Converted, Unsaid, CarriesOver}
+use Rattle.model.specs.Convert.{forth, back, widened, Converted, Unsaid, CertificateCarried, CarriesOver}
 use Rattle.model.specs.Edition.{Edition, firstEdition, longReads, planRoomIn}
 use Rattle.model.specs.Gap.{isTask, taskGap, HasGap}
-use Rattle.model.specs.Plan.{Plan, sound, readPlan, readPlanIn}
+use Rattle.model.specs.Plan.{Plan, sound, readPlan, readPlanIn, IsSoundIn}
 use Rattle.model.specs.PlanBytes.{planBytesIn, planBytes}
 use Rattle.model.specs.Refusals.{tooManyPairs, notInFirst}
 use Rattle.solver.specs.declared.Answer as solver
@@ -80,3 +82,9 @@ pub record ForthAs (plan out out′ : List ℕ) (r : ℕ) : Type 0 where
 pub record BackAs (plan out out′ : List ℕ) (r : ℕ) : Type 0 where
   pub converts : ConvertsAs longReads firstEdition back forth plan out out′ r
   pub unsaid : (r ≡ 65536 + notInFirst) ↔ ((planRoomIn firstEdition ≤ length out) × Unsaid firstEdition plan)
+
+-- the widen call's: what is due; and bytes that were written are accepted for the converted plan as the old certificate was for the plan
+pub record WidenedAs (certificate out out′ : List ℕ) (r : ℕ) : Type 0 where
+  pub tells : TellsAs certificateBytes (widened certificate (length out)) out out′ r
+  pub carried : (P : Plan) → IsSoundIn firstEdition P → (c : Certificate) → readCertificateIn firstEdition certificate ≡ some c → r < 65536 →
+      CertificateCarried P c (planBytes P) (take r out′)

@@ -7,7 +7,7 @@ ghost use Rattle.model.specs.Bytes.{workAfter};
 ghost use Rattle.model.specs.Check.{check};
 ghost use Rattle.model.specs.Limits.{workRoom};
 ghost use Rattle.model.specs.Trace.{trace, traceBytes};
-ghost use Rattle.exports.specs.Codes.{codeOf, checkCode, numbersAfter, TellsAs, SolvesAs, RewritesAs, CombinesAs, ForthAs, BackAs};
+ghost use Rattle.exports.specs.Codes.{codeOf, checkCode, numbersAfter, TellsAs, SolvesAs, RewritesAs, CombinesAs, ForthAs, BackAs, WidenedAs};
 ghost use Rattle.refusals.specs.Told.{resultBy};
 
 // The number of bytes written, or 65,536 and the number of the refusal.
@@ -104,4 +104,12 @@ pub extern "C" fn jovnetal_back(plan: &[u8], out: &mut [u8]) -> u64
     ensures { λ r. ⌜ BackAs (now (plan .entry)) (now (out .entry)) (now (out .exit)) r ⌝ }
 {
     code(convert::back(plan, out))
+}
+
+// The widen call: the number of bytes written, or 65,536 and the number of the refusal.
+#[no_mangle]
+pub extern "C" fn jovnetal_widen(certificate: &[u8], out: &mut [u8]) -> u64
+    ensures { λ r. ⌜ WidenedAs (now (certificate .entry)) (now (out .entry)) (now (out .exit)) r ⌝ }
+{
+    code(widen::widen(certificate, out))
 }

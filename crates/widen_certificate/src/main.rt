@@ -7,12 +7,12 @@ ghost use lib.ListN.{length};
 ghost use Rattle.model.specs.Bytes.{Put};
 ghost use Rattle.model.specs.Certificate.{certificateBytes};
 ghost use Rattle.model.specs.Convert.{widened};
-ghost use Rattle.model.specs.Limits.{certificateRoom};
 ghost use Rattle.model.specs.Text.{writingText};
+ghost use Rattle.answer_text.specs.Finish.{refusalRoom};
 
 // Writes the widened certificate from the output's first byte on and to standard output, and answers the number of bytes.
 fn write_widened(certificate: &[u8], out: &mut [u8]) -> usize
-    requires { ⌜ certificateRoom ≤ length (now out) ⌝ }
+    requires { ⌜ refusalRoom ≤ length (now out) ⌝ }
     ensures { λ n. ⌜ Put (now (out .entry)) (now (out .exit)) 0 (writingText certificateBytes (widened (now (certificate .entry)) (length (now (out .entry))))) n ⌝ }
 {
     let answer = widen::widen(certificate, out);

@@ -1,42 +1,30 @@
 -- `exports::jovnetal_combine` meets its contract: the number of what the combine call told; bytes were written where it is small.
 -- Assumes nothing.
-use mathlib.Core.Path.{_≡_, refl, sym, ap, subst, _∙_}
+use mathlib.Core.Path.{_≡_}
 use mathlib.Core.List.{List}
 use Prim.Native.Nat.{ℕ}
 use native.Mathlib.Omega.{arith}
 use lib.ListN.{length, take}
-use Rattle.model.specs.Calls.{refuses}
-use Rattle.model.specs.Combine.{combine, AdmitsBoth}
-use Rattle.model.specs.PlanBytes.{planBytes}
+use Rattle.model.specs.Combine.{AdmitsBoth}
 use Rattle.model.specs.Refusals.{tooManyPairs}
 use Rattle.theory.proofs.Combined.{combine-fits, combine-many}
-use Rattle.refusals.specs.Numbers.{refusalNumber}
 use Rattle.refusals.specs.declared.Answer.{Answer}
-use Rattle.refusals.specs.declared.Answer.the-variants.{Refused, Written}
 use Rattle.refusals.specs.Told.{resultBy}
-use Rattle.refusals.proofs.Told.{told-bytes, told-due}
 use Rattle.combine.specs.Promise.{Combines}
 use Rattle.exports.specs.Codes.{codeOf, CombinesAs}
-use Rattle.exports.proofs.Codes.{tells-as}
+use Rattle.exports.proofs.Codes.{by-number, tells-as, due-by-number}
 use borrow.Author.Needs.{needs}
 use Rattle.exports.proofs.jovnetal_combine.Statement.{statement}
 use Rattle.exports.proofs.jovnetal_combine.Tie as tie
 
 combines-as : (first second out out′ : List ℕ) (a : Answer) (r : ℕ) → Combines first second out out′ a → r ≡ codeOf (resultBy a) →
     CombinesAs first second out out′ r
-combines-as first second out out′ (Refused f) r w e = record {
+combines-as first second out out′ a r w e = record {
   tells = tells-as (w .told) e;
-  admitted = λ P Q p q small. absurd (omega (arith, e));
+  admitted = λ P Q p q. by-number (λ k. AdmitsBoth P Q (take k out′)) a e (w .admitted P Q p q);
   many = λ P Q p q k.
-      let same : refusalNumber f ≡ tooManyPairs = omega (arith, e, k) in
-      combine-many first second (length out) P Q p q (told-due planBytes (combine first second (length out)) out out′ f (w .told) ∙ ap refuses same);
-}
-combines-as first second out out′ (Written n) r w e = record {
-  tells = tells-as (w .told) e;
-  admitted = λ P Q p q small. subst (λ (k : ℕ). AdmitsBoth P Q (take k out′)) (sym e) (w .admitted P Q p q n refl);
-  many = λ P Q p q k.
-      let b = told-bytes planBytes (combine first second (length out)) out out′ n (w .told) in
-      absurd (omega (arith, e, k, b .size, combine-fits first second (length out) P Q p q (b .what) (b .isDue)));
+      combine-many first second (length out) P Q p q
+      (due-by-number a tooManyPairs (λ R d. omega (arith, combine-fits first second (length out) P Q p q R d)) (w .told) e k);
 }
 
 rewrite-requires : tie.Need-rewrite-requires
