@@ -1,7 +1,5 @@
--- What is written for a plan by the solver, whether its certificate begins with a head, and the line of its passes; and for a certificate that is
--- widened.
-use mathlib.Core.Path.{_≡_}
-use mathlib.Core.Bool.{Bool, true}
+-- What is written for a plan by the solver: whether its certificate begins with a head, and the line of its passes.
+use mathlib.Core.Bool.{Bool}
 use mathlib.Core.List.{List}
 use Prim.Native.Nat.{ℕ}
 use lib.ListN.{length, take}
@@ -9,14 +7,8 @@ use Rattle.model.specs.Limits.{workRoom, certificateRoom}
 use Rattle.model.specs.Solve.{solve}
 use Rattle.solver.specs.declared.Answer.{Answer}
 use Rattle.solver.specs.Promise.{Solves}
-use Rattle.refusals.specs.declared.Answer as refusals
-use Rattle.widen.specs.Promise.{Widens}
+use Rattle.records.specs.Begins.{Begins}
 use Rattle.solve_text.specs.Bytes.{inBytes, inPasses, Puts}
-
--- r says whether the bytes begin with the head
-abbrev pub Begins : List ℕ → List ℕ → Bool → Type 0
-Begins bytes head r =
-    (r ≡ true → take (length head) bytes ≡ head) × (take (length head) bytes ≡ head → r ≡ true)
 
 -- r says whether what is due for the plan begins with the head; of a certificate the cycle is free
 pub record Compared (plan head : List ℕ) (r : Bool) : Type 0 where
@@ -42,9 +34,3 @@ pub record Called (plan head work work′ out out′ : List ℕ) (r : Bool) : Ty
   pub size : ℕ
   pub written : Puts inPasses (solve plan (length work) (length out)) before after size
   pub begins : Begins out′ head r
-
--- the widen call was lent this output and left it so, and r says whether it then begins with these bytes
-pub record WidensAs (certificate bytes out out′ : List ℕ) (r : Bool) : Type 0 where
-  pub answer : refusals.Answer
-  pub widens : Widens certificate out out′ answer
-  pub begins : Begins out′ bytes r

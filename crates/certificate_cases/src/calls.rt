@@ -1,37 +1,9 @@
 // Cases of the solve call: for each the line of the number of passes, or of the refusal, and whether the output begins as the case says. A
 // case has a plan, the head of its certificate, none where the call refuses, and the bytes of work memory and of output that are lent.
-use super::solves;
 use libc::STDOUT_FILENO;
-ghost use mathlib.Core.Path.{_≡_};
 ghost use mathlib.Core.List.{List};
-ghost use Prim.Native.Nat.{ℕ, min};
-ghost use lib.ListN.{length, replicate};
-ghost use Rattle.io.specs.Counts.{Counts};
+ghost use Prim.Native.Nat.{ℕ};
 ghost use Rattle.certificate_cases.specs.Heads.{Called};
-
-// The most bytes that a case lends.
-const MOST: usize = 65544;
-
-// Memory to lend.
-pub fn memory() -> [u8; MOST]
-    ensures { λ r. ⌜ r ≡ replicate 65544 0 ⌝ }
-    ensures { λ r. ⌜ 65544 ≡ length r ⌝ }
-{
-    [0; MOST]
-}
-
-// A number of bytes of the memory, as far as there are.
-pub fn lent(n: u64, memory: &[u8]) -> usize
-    ensures { λ r. ⌜ r ≡ min n (length (now (memory .entry))) ⌝ }
-    ensures { λ r. ⌜ Counts r (now (memory .entry)) ⌝ }
-{
-    let most = memory.len();
-    let wanted = n as usize;
-    if most < wanted {
-        return most;
-    }
-    wanted
-}
 
 // Writes what the solve call tells and whether its output begins with the head, and answers the latter.
 fn write_call(plan: &[u8], head: &[u8], work: &mut [u8], out: &mut [u8]) -> bool
@@ -40,7 +12,7 @@ fn write_call(plan: &[u8], head: &[u8], work: &mut [u8], out: &mut [u8]) -> bool
     let mut line = [0u8; 32];
     let n = solve_text::put_passes_in(&mut line, plan, work, out);
     io::write_all(STDOUT_FILENO, &line[..n]);
-    solves::write_comparison(out, head)
+    records::write_comparison(out, head)
 }
 
 // Reads a plan, a head and two numbers of eight bytes, and writes both lines.
@@ -50,12 +22,12 @@ pub fn call_case(file: i32) -> bool
     let mut plan = io::large_buffer();
     let mut head = io::large_buffer();
     let mut numbers = [0u8; 16];
-    let mut work = memory();
-    let mut out = memory();
+    let mut work = records::memory();
+    let mut out = records::memory();
     let p = records::read_next(file, &mut plan);
     let h = records::read_next(file, &mut head);
     records::read_next(file, &mut numbers);
-    let w = lent(words::read_u64(&numbers, 0), &work);
-    let r = lent(words::read_u64(&numbers, 8), &out);
+    let w = records::lent(words::read_u64(&numbers, 0), &work);
+    let r = records::lent(words::read_u64(&numbers, 8), &out);
     write_call(&plan[..p], &head[..h], &mut work[..w], &mut out[..r])
 }

@@ -1,9 +1,8 @@
-// Cases of calls that build the graph, and of certificates: each kind reads its fields and writes what is due for them.
+// Cases of calls that build the graph: each kind reads its fields and writes what is due for them.
 pub mod calls; // calls.rt: a plan, a head and the memory lent to the solve call
 pub mod checks; // checks.rt: a plan and a certificate
 pub mod passes; // passes.rt: a plan, for the number of its passes
 pub mod solves; // solves.rt: a plan and the head of its certificate
-pub mod widenings; // widenings.rt: a certificate of the first edition, and the output lent to the widen call
 
 ghost use mathlib.Core.Path.{_≡_};
 ghost use Rattle.certificate_cases.specs.Kinds.{isCertificateKind};
@@ -15,8 +14,6 @@ const SOLVE: u8 = 4;
 const PASSES: u8 = 7;
 
 const CALL: u8 = 8;
-
-const WIDEN: u8 = 11;
 
 // Runs the next case of the file if its kind is one of these, and answers whether it is.
 pub fn run(kind: u8, file: i32) -> bool
@@ -37,10 +34,6 @@ pub fn run(kind: u8, file: i32) -> bool
         }
         CALL => {
             calls::call_case(file);
-            true
-        }
-        WIDEN => {
-            widenings::widen_case(file);
             true
         }
         _ => false,

@@ -3,40 +3,12 @@
 // `11` and every `12`. Where the plan is refused there is no head.
 ghost use mathlib.Core.List.{List};
 ghost use Prim.Native.Nat.{ℕ};
-ghost use Rattle.certificate_cases.specs.Heads.{Begins, Compared};
+ghost use Rattle.certificate_cases.specs.Heads.{Compared};
 use super::checks;
 use libc::STDOUT_FILENO;
 
 // The first byte of every certificate; the line of a refusal begins with another.
 const FIRST: u8 = 0x11;
-
-// Whether the bytes begin with a head.
-fn begins_with(bytes: &[u8], head: &[u8]) -> bool
-    ensures { λ r. ⌜ Begins (now (bytes .entry)) (now (head .entry)) r ⌝ }
-{
-    let n = head.len();
-    if bytes.len() < n {
-        return false;
-    }
-    check::same(&bytes[..n], head)
-}
-
-// Writes whether the bytes begin with a head, and answers it.
-pub fn write_comparison(bytes: &[u8], head: &[u8]) -> bool
-    ensures { λ r. ⌜ Begins (now (bytes .entry)) (now (head .entry)) r ⌝ }
-{
-    let same = begins_with(bytes, head);
-    if head.len() == 0 {
-        io::write_all(STDOUT_FILENO, b"no head\n");
-        return same;
-    }
-    if same {
-        io::write_all(STDOUT_FILENO, b"head as given\n");
-        return same;
-    }
-    io::write_all(STDOUT_FILENO, b"head differs\n");
-    same
-}
 
 // Writes both lines of a plan and a head, and answers whether the certificate begins with the head.
 fn write_solution(plan: &[u8], head: &[u8]) -> bool
@@ -50,7 +22,7 @@ fn write_solution(plan: &[u8], head: &[u8]) -> bool
     } else {
         io::write_all(STDOUT_FILENO, &certificate[..n]);
     }
-    write_comparison(&certificate[..n], head)
+    records::write_comparison(&certificate[..n], head)
 }
 
 // Reads a plan and a head, and writes both lines.

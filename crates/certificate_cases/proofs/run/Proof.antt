@@ -19,9 +19,6 @@ passes-case-requires c κs = search needs
 call-case-requires : tie.Need-call-case-requires
 call-case-requires c κs = search needs
 
-widen-case-requires : tie.Need-widen-case-requires
-widen-case-requires c κs = search needs
-
 returns : tie.Need-returns
 returns c = sym (ap isCertificateKind (c .before .match .keys1))
 
@@ -35,12 +32,9 @@ returns-4 : tie.Need-returns-4
 returns-4 c = sym (ap isCertificateKind (c .before .match .keys4))
 
 returns-5 : tie.Need-returns-5
-returns-5 c = sym (ap isCertificateKind (c .before .match .keys5))
-
-returns-6 : tie.Need-returns-6
-returns-6 c =
+returns-5 c =
     simp
-    (ne-eqb _ _ (c .match .rest .0 .0 .0 .0 .1), ne-eqb _ _ (c .match .rest .0 .0 .0 .1), ne-eqb _ _ (c .match .rest .0 .0 .1), ne-eqb _ _ (c .match .rest .0 .1), ne-eqb _ _ (c .match .rest .1))
+    (ne-eqb _ _ (c .match .rest .0 .0 .0 .1), ne-eqb _ _ (c .match .rest .0 .0 .1), ne-eqb _ _ (c .match .rest .0 .1), ne-eqb _ _ (c .match .rest .1))
 
 pub run-spec : {M : Type 1} → statement M
 run-spec =
@@ -50,10 +44,8 @@ run-spec =
     solve-case-requires
     passes-case-requires
     call-case-requires
-    widen-case-requires
     returns
     returns-2
     returns-3
     returns-4
-    returns-5
-    returns-6)
+    returns-5)

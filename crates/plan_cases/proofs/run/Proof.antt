@@ -25,6 +25,9 @@ forth-case-requires c κs = search needs
 back-case-requires : tie.Need-back-case-requires
 back-case-requires c κs = search needs
 
+widen-case-requires : tie.Need-widen-case-requires
+widen-case-requires c κs = search needs
+
 returns : tie.Need-returns
 returns c = sym (ap isPlanKind (c .before .match .keys1))
 
@@ -44,9 +47,12 @@ returns-6 : tie.Need-returns-6
 returns-6 c = sym (ap isPlanKind (c .before .match .keys6))
 
 returns-7 : tie.Need-returns-7
-returns-7 c =
+returns-7 c = sym (ap isPlanKind (c .before .match .keys7))
+
+returns-8 : tie.Need-returns-8
+returns-8 c =
     simp
-    (ne-eqb _ _ (c .match .rest .0 .0 .0 .0 .0 .1), ne-eqb _ _ (c .match .rest .0 .0 .0 .0 .1), ne-eqb _ _ (c .match .rest .0 .0 .0 .1), ne-eqb _ _ (c .match .rest .0 .0 .1), ne-eqb _ _ (c .match .rest .0 .1), ne-eqb _ _ (c .match .rest .1))
+    (ne-eqb _ _ (c .match .rest .0 .0 .0 .0 .0 .0 .1), ne-eqb _ _ (c .match .rest .0 .0 .0 .0 .0 .1), ne-eqb _ _ (c .match .rest .0 .0 .0 .0 .1), ne-eqb _ _ (c .match .rest .0 .0 .0 .1), ne-eqb _ _ (c .match .rest .0 .0 .1), ne-eqb _ _ (c .match .rest .0 .1), ne-eqb _ _ (c .match .rest .1))
 
 pub run-spec : {M : Type 1} → statement M
 run-spec =
@@ -58,10 +64,12 @@ run-spec =
     combine-case-requires
     forth-case-requires
     back-case-requires
+    widen-case-requires
     returns
     returns-2
     returns-3
     returns-4
     returns-5
     returns-6
-    returns-7)
+    returns-7
+    returns-8)

@@ -1,4 +1,4 @@
--- `certificate_cases::solves::begins_with` meets its contract: bytes that are fewer do not begin with the head.
+-- `records::begins_with` meets its contract: bytes that are fewer do not begin with the head.
 -- Assumes nothing.
 use mathlib.Core.Path.{_≡_, sym, ap}
 use mathlib.Core.Bool.{false}
@@ -8,9 +8,9 @@ use native.Mathlib.Omega.{arith}
 use lib.ListN.{length, length-take}
 use lib.Seq.{length-take-le}
 use borrow.Author.Needs.{needs}
-use Rattle.certificate_cases.specs.Heads.{Begins}
-use Rattle.certificate_cases.proofs.solves.begins_with.Statement.{statement}
-use Rattle.certificate_cases.proofs.solves.begins_with.Tie as tie
+use Rattle.records.specs.Begins.{Begins}
+use Rattle.records.proofs.begins_with.Statement.{statement}
+use Rattle.records.proofs.begins_with.Tie as tie
 
 -- fewer bytes than a head has do not begin with it
 shorter : (bytes head : List ℕ) → length bytes < length head → Begins bytes head false

@@ -1,10 +1,8 @@
 // Cases of certificates that are widened: for each the line of what the call tells, and whether the output begins as the case says. A case
 // has a certificate of the first edition, the bytes that it becomes, none where the call refuses, and the bytes of output that are lent.
-use super::calls;
-use super::solves;
 ghost use mathlib.Core.List.{List};
 ghost use Prim.Native.Nat.{ℕ};
-ghost use Rattle.certificate_cases.specs.Heads.{WidensAs};
+ghost use Rattle.plan_cases.specs.Widened.{WidensAs};
 
 // Writes what the widen call tells and whether its output begins with these bytes, and answers the latter.
 fn write_widened(certificate: &[u8], bytes: &[u8], out: &mut [u8]) -> bool
@@ -12,7 +10,7 @@ fn write_widened(certificate: &[u8], bytes: &[u8], out: &mut [u8]) -> bool
 {
     let answer = widen::widen(certificate, out);
     answer_text::print_line(answer);
-    solves::write_comparison(out, bytes)
+    records::write_comparison(out, bytes)
 }
 
 // Reads a certificate, bytes and a number of eight bytes, and writes both lines.
@@ -22,10 +20,10 @@ pub fn widen_case(file: i32) -> bool
     let mut certificate = io::large_buffer();
     let mut bytes = io::large_buffer();
     let mut numbers = [0u8; 8];
-    let mut out = calls::memory();
+    let mut out = records::memory();
     let c = records::read_next(file, &mut certificate);
     let b = records::read_next(file, &mut bytes);
     records::read_next(file, &mut numbers);
-    let n = calls::lent(words::read_u64(&numbers, 0), &out);
+    let n = records::lent(words::read_u64(&numbers, 0), &out);
     write_widened(&certificate[..c], &bytes[..b], &mut out[..n])
 }

@@ -1,10 +1,10 @@
--- `certificate_cases::calls::lent` meets its contract: the smaller of both numbers. Assumes nothing.
+-- `records::lent` meets its contract: the smaller of both numbers. Assumes nothing.
 use mathlib.Core.Path.{sym}
 use native.Mathlib.Nat.{min-eq-left, min-eq-right}
 use native.Mathlib.Omega.{arith}
 use Rattle.text.proofs.Put.{counted}
-use Rattle.certificate_cases.proofs.calls.lent.Statement.{statement}
-use Rattle.certificate_cases.proofs.calls.lent.Tie as tie
+use Rattle.records.proofs.lent.Statement.{statement}
+use Rattle.records.proofs.lent.Tie as tie
 
 returns : tie.Need-returns
 returns c = (sym (min-eq-right (omega arith)), counted _ _ (omega arith))
