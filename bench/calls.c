@@ -105,8 +105,9 @@ int main(void) {
     n = jovnetal_widen(filed, sizeof filed, certificate, sizeof certificate);
     expect(n == 80 && memcmp(certificate, filed, 59) == 0 && memcmp(certificate + 59, steps, sizeof steps) == 0, "each mask has two bytes, and all else is as it was");
     expect(all(certificate + n, sizeof certificate - n, 7), "bytes past the widened certificate are as they were");
-    expect(jovnetal_check(plan, sizeof plan, certificate, n, work, sizeof work, numbers) == 0 && numbers[0] == 0 && numbers[1] == 1,
-           "the certificate is accepted, widened, for the plan sent forth");
+    numbers[0] = numbers[1] = numbers[2] = numbers[3] = 7;
+    expect(jovnetal_check(again, sizeof plan, certificate, n, work, sizeof work, numbers) == 0, "the certificate is accepted, widened, for the plan sent forth");
+    expect(numbers[0] == 0 && numbers[1] == 1 && numbers[2] == 5 && numbers[3] == 0, "with the numbers of case B");
 
     printf("C: p/q = %llu/%llu, %s\n", (unsigned long long)numbers[0], (unsigned long long)numbers[1], failures ? "FAILED" : "all as said");
     return failures != 0;
