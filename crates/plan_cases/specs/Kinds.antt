@@ -1,8 +1,7 @@
--- The kinds of cases by their numbers: a plan, a trace, a gap, two plans, a plan sent forth, a plan sent back, a certificate
--- that is widened.
+-- The kinds of cases by their numbers: a plan, a trace, a gap, two plans.
 use Prim.Native.Nat.{ℕ}
 use mathlib.Core.Bool.{Bool, _||_}
 use lib.Dec.{eqb}
 
 abbrev pub isPlanKind : ℕ → Bool
-isPlanKind k = eqb k 1 || eqb k 2 || eqb k 5 || eqb k 6 || eqb k 9 || eqb k 10 || eqb k 11
+isPlanKind k = eqb k 1 || eqb k 2 || eqb k 5 || eqb k 6

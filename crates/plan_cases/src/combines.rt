@@ -7,7 +7,6 @@ ghost use Rattle.model.specs.Calls.{resultOf, outputAfter};
 ghost use Rattle.model.specs.Combine as model-combine;
 ghost use Rattle.model.specs.PlanBytes.{planBytes};
 ghost use Rattle.answer_text.specs.Finish.{resultLine};
-use super::results;
 
 // Writes what the combine call tells and leaves to standard output, and answers the length of the line.
 fn write_combined(first: &[u8], second: &[u8], out: &mut [u8]) -> usize
@@ -15,7 +14,7 @@ fn write_combined(first: &[u8], second: &[u8], out: &mut [u8]) -> usize
     ensures { λ _. ⌜ now (out .exit) ≡ outputAfter planBytes (model-combine.combine (now (first .entry)) (now (second .entry)) (length (now (out .entry)))) (now (out .entry)) ⌝ }
 {
     let answer = combine::rewrite(first, second, out);
-    results::write_result(answer, out)
+    records::write_result(answer, out)
 }
 
 // Reads two plans and an output, and writes what the call tells and leaves.

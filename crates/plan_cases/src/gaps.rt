@@ -7,7 +7,6 @@ ghost use Rattle.model.specs.Calls.{resultOf, outputAfter};
 ghost use Rattle.model.specs.Gap.{taskGap};
 ghost use Rattle.model.specs.PlanBytes.{planBytes};
 ghost use Rattle.answer_text.specs.Finish.{resultLine};
-use super::results;
 
 // Writes what the gap call tells and leaves to standard output, and answers the length of the line.
 fn write_gap(plan: &[u8], task: u64, slots: u64, out: &mut [u8]) -> usize
@@ -15,7 +14,7 @@ fn write_gap(plan: &[u8], task: u64, slots: u64, out: &mut [u8]) -> usize
     ensures { λ _. ⌜ now (out .exit) ≡ outputAfter planBytes (taskGap (now (plan .entry)) task slots (length (now (out .entry)))) (now (out .entry)) ⌝ }
 {
     let answer = gap::rewrite(plan, task, slots, out);
-    results::write_result(answer, out)
+    records::write_result(answer, out)
 }
 
 // Reads a plan, a task and a gap of eight bytes each, and an output, and writes what the call tells and leaves.

@@ -1,10 +1,13 @@
-// What the kinds of cases share: the fields of a case, byte strings of a file, each behind two bytes of its length; memory to lend; and whether
-// bytes begin as a case says.
+// What the kinds of cases share: the fields of a case, byte strings of a file, each behind two bytes of its length; memory to lend; whether
+// bytes begin as a case says; and what a call that writes bytes tells and leaves.
 use libc::STDOUT_FILENO;
+use refusals::Answer;
 ghost use mathlib.Core.Path.{_≡_};
 ghost use Prim.Native.Nat.{min};
 ghost use lib.ListN.{length, replicate};
 ghost use Rattle.io.specs.Counts.{Counts};
+ghost use Rattle.refusals.specs.Told.{resultBy};
+ghost use Rattle.answer_text.specs.Finish.{resultLine};
 ghost use Rattle.records.specs.Begins.{Begins};
 
 // Reads the next record, two bytes of length and then so many, into a buffer; how many bytes it has.
@@ -72,4 +75,13 @@ pub fn write_comparison(bytes: &[u8], head: &[u8]) -> bool
     }
     io::write_all(STDOUT_FILENO, b"head differs\n");
     same
+}
+
+// Writes the line of an answer and all bytes of the output to standard output, and answers the length of the line.
+pub fn write_result(answer: Answer, out: &[u8]) -> usize
+    ensures { λ n. ⌜ n ≡ length (resultLine (resultBy answer)) ⌝ }
+{
+    let n = answer_text::print_line(answer);
+    io::write_all(STDOUT_FILENO, out);
+    n
 }

@@ -42,12 +42,6 @@ array-read-run c = search needs
 run-requires : tie.Need-run-requires Inv-loop μ-loop
 run-requires c κs = search needs
 
-array-read-run-2 : tie.Need-array-read-run-2 Inv-loop μ-loop
-array-read-run-2 c = search needs
-
-run-requires-2 : tie.Need-run-requires-2 Inv-loop μ-loop
-run-requires-2 c κs = search needs
-
 slice-aggregate-write-all : tie.Need-slice-aggregate-write-all Inv-loop μ-loop
 slice-aggregate-write-all c = search needs
 
@@ -83,8 +77,6 @@ main-spec =
     read-full-requires-2
     array-read-run
     run-requires
-    array-read-run-2
-    run-requires-2
     slice-aggregate-write-all
     write-all-requires
     sub-left

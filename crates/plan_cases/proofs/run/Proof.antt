@@ -19,15 +19,6 @@ gap-case-requires c κs = search needs
 combine-case-requires : tie.Need-combine-case-requires
 combine-case-requires c κs = search needs
 
-forth-case-requires : tie.Need-forth-case-requires
-forth-case-requires c κs = search needs
-
-back-case-requires : tie.Need-back-case-requires
-back-case-requires c κs = search needs
-
-widen-case-requires : tie.Need-widen-case-requires
-widen-case-requires c κs = search needs
-
 returns : tie.Need-returns
 returns c = sym (ap isPlanKind (c .before .match .keys1))
 
@@ -41,18 +32,9 @@ returns-4 : tie.Need-returns-4
 returns-4 c = sym (ap isPlanKind (c .before .match .keys4))
 
 returns-5 : tie.Need-returns-5
-returns-5 c = sym (ap isPlanKind (c .before .match .keys5))
-
-returns-6 : tie.Need-returns-6
-returns-6 c = sym (ap isPlanKind (c .before .match .keys6))
-
-returns-7 : tie.Need-returns-7
-returns-7 c = sym (ap isPlanKind (c .before .match .keys7))
-
-returns-8 : tie.Need-returns-8
-returns-8 c =
+returns-5 c =
     simp
-    (ne-eqb _ _ (c .match .rest .0 .0 .0 .0 .0 .0 .1), ne-eqb _ _ (c .match .rest .0 .0 .0 .0 .0 .1), ne-eqb _ _ (c .match .rest .0 .0 .0 .0 .1), ne-eqb _ _ (c .match .rest .0 .0 .0 .1), ne-eqb _ _ (c .match .rest .0 .0 .1), ne-eqb _ _ (c .match .rest .0 .1), ne-eqb _ _ (c .match .rest .1))
+    (ne-eqb _ _ (c .match .rest .0 .0 .0 .1), ne-eqb _ _ (c .match .rest .0 .0 .1), ne-eqb _ _ (c .match .rest .0 .1), ne-eqb _ _ (c .match .rest .1))
 
 pub run-spec : {M : Type 1} → statement M
 run-spec =
@@ -62,14 +44,8 @@ run-spec =
     trace-case-requires
     gap-case-requires
     combine-case-requires
-    forth-case-requires
-    back-case-requires
-    widen-case-requires
     returns
     returns-2
     returns-3
     returns-4
-    returns-5
-    returns-6
-    returns-7
-    returns-8)
+    returns-5)

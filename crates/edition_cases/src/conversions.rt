@@ -8,7 +8,6 @@ ghost use Rattle.model.specs.Convert as model-convert;
 ghost use Rattle.model.specs.Edition.{firstEdition};
 ghost use Rattle.model.specs.PlanBytes.{planBytesIn, planBytes};
 ghost use Rattle.answer_text.specs.Finish.{resultLine};
-use super::results;
 
 // Writes what the forth call tells and leaves to standard output, and answers the length of the line.
 fn write_forth(plan: &[u8], out: &mut [u8]) -> usize
@@ -16,7 +15,7 @@ fn write_forth(plan: &[u8], out: &mut [u8]) -> usize
     ensures { λ _. ⌜ now (out .exit) ≡ outputAfter planBytes (model-convert.forth (now (plan .entry)) (length (now (out .entry)))) (now (out .entry)) ⌝ }
 {
     let answer = convert::forth(plan, out);
-    results::write_result(answer, out)
+    records::write_result(answer, out)
 }
 
 // Reads a plan and an output, and writes what the forth call tells and leaves.
@@ -36,7 +35,7 @@ fn write_back(plan: &[u8], out: &mut [u8]) -> usize
     ensures { λ _. ⌜ now (out .exit) ≡ outputAfter (planBytesIn firstEdition) (model-convert.back (now (plan .entry)) (length (now (out .entry)))) (now (out .entry)) ⌝ }
 {
     let answer = convert::back(plan, out);
-    results::write_result(answer, out)
+    records::write_result(answer, out)
 }
 
 // Reads a plan and an output, and writes what the back call tells and leaves.

@@ -2,7 +2,7 @@
 // has a certificate of the first edition, the bytes that it becomes, none where the call refuses, and the bytes of output that are lent.
 ghost use mathlib.Core.List.{List};
 ghost use Prim.Native.Nat.{ℕ};
-ghost use Rattle.plan_cases.specs.Widened.{WidensAs};
+ghost use Rattle.edition_cases.specs.Widened.{WidensAs};
 
 // Writes what the widen call tells and whether its output begins with these bytes, and answers the latter.
 fn write_widened(certificate: &[u8], bytes: &[u8], out: &mut [u8]) -> bool
