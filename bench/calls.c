@@ -36,8 +36,8 @@ static int all(const uint8_t *bytes, size_t length, uint8_t value) {
 }
 
 int main(void) {
-    static const uint8_t traced[] = {2, 0, 0, 1, 0, 1, 0, 0, 0};
-    static const uint8_t in_vain[] = {1, 0, 1, 2, 0, 0};
+    static const uint8_t traced[] = {2, 0, 0, 0, 1, 0, 1, 2, 0, 0, 0, 0};
+    static const uint8_t in_vain[] = {1, 0, 1, 0, 2, 0, 0, 0};
     static const uint8_t gap[] = {1, 1, 1, 0, 1, 1, 2, 2, 0, 3, 2, 1, 3, 2, 4, 0, 0, 0, 4, 0, 1, 1, 4, 0, 2, 0, 4, 0, 3, 1, 4, 1, 0, 0, 4, 1, 2, 0, 5};
     static const uint8_t old[] = {1, 1, 1, 1, 1, 2, 2, 3, 2, 1, 3, 1, 4, 0, 0, 0, 4, 0, 1, 0, 4, 0, 2, 0, 4, 0, 3, 0, 5};
     static const uint8_t wide[] = {1, 1, 9, 0, 1, 2, 1, 3, 1, 5};
@@ -66,8 +66,13 @@ int main(void) {
     expect(jovnetal_check(plan, sizeof plan, certificate, n, work, sizeof work, numbers) == 0, "the certificate is accepted");
     expect(numbers[0] == 0 && numbers[1] == 1 && numbers[2] == 5 && numbers[3] == 0, "the share is 0/1 of 5 nodes, with allowance 0");
 
+    memset(slots, 7, sizeof slots);
+    expect(jovnetal_trace(plan, sizeof plan, labels, sizeof labels, slots, sizeof slots - 1) == JOVNETAL_REFUSED + 11, "short output is refused with 11");
+    expect(jovnetal_trace(plan, sizeof plan, plan, sizeof plan, slots, sizeof slots) == JOVNETAL_REFUSED + 13, "a label that is not admitted is refused with 13");
+    expect(all(slots, sizeof slots, 7), "and both leave the output as it was");
     n = jovnetal_trace(plan, sizeof plan, labels, sizeof labels, slots, sizeof slots);
-    expect(n == sizeof traced && memcmp(slots, traced, sizeof traced) == 0, "tasks 2, 1, none run, and the gains are 0, 1, 0");
+    expect(n == sizeof traced && memcmp(slots, traced, sizeof traced) == 0, "tasks 2, 1, none run, the gains are 0, 1, 0, and task 1 cuts task 2");
+    expect(all(slots + n, sizeof slots - n, 7), "bytes past the trace are as they were");
     n = jovnetal_trace(plan, sizeof plan, busy, sizeof busy, slots, sizeof slots);
     expect(n == sizeof in_vain && memcmp(slots, in_vain, sizeof in_vain) == 0, "a job that can't finish runs and gains nothing");
 

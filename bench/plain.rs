@@ -21,8 +21,8 @@ pub struct Task {
     pub value: u16,
 }
 
-// One slot by the rules, with the jobs in release order: the task that ran, 0 for none, and the gain.
-pub fn slot(tasks: &[Task], policy: u8, jobs: &mut Vec<Job>, label: u8) -> (u8, u16) {
+// One slot by the rules, with the jobs in release order: the place of the job that ran and the job as the slot leaves it, and the gain.
+pub fn slot(tasks: &[Task], policy: u8, jobs: &mut Vec<Job>, label: u8) -> (Option<(usize, Job)>, u16) {
     for (i, t) in tasks.iter().enumerate() {
         if label >> i & 1 == 1 {
             jobs.push(Job { task: i + 1, work: t.work, left: t.window });
@@ -35,11 +35,9 @@ pub fn slot(tasks: &[Task], policy: u8, jobs: &mut Vec<Job>, label: u8) -> (u8, 
         _ => (j.task, j.left as usize, 0),
     };
     let first = (0..jobs.len()).min_by_key(|&k| key(&jobs[k]));
-    let mut ran = 0;
     let mut gain = 0;
     if let Some(k) = first {
         jobs[k].work -= 1;
-        ran = jobs[k].task as u8;
         if jobs[k].work == 0 {
             gain = tasks[jobs[k].task - 1].value;
         }
@@ -47,6 +45,7 @@ pub fn slot(tasks: &[Task], policy: u8, jobs: &mut Vec<Job>, label: u8) -> (u8, 
     for j in jobs.iter_mut() {
         j.left -= 1;
     }
+    let ran = first.map(|k| (k, jobs[k]));
     jobs.retain(|j| j.work > 0 && j.left > 0);
     (ran, gain)
 }

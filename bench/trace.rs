@@ -10,13 +10,19 @@ extern "C" {
 
 fn plain_trace(tasks: &[Task], policy: u8, labels: &[u8], out: &mut [u8]) -> usize {
     let mut jobs = Vec::with_capacity(32);
+    let mut before = None;
     for (i, &l) in labels.iter().enumerate() {
+        let waits = before.and_then(|b| jobs.iter().position(|&j| j == b));
         let (ran, gain) = slot(tasks, policy, &mut jobs, l);
-        out[3 * i] = ran;
-        out[3 * i + 1] = (gain >> 8) as u8;
-        out[3 * i + 2] = gain as u8;
+        let runs_on = ran.map(|(k, _)| k) == waits;
+        let cut = before.filter(|_| waits.is_some() && !runs_on);
+        before = ran.map(|(_, job)| job);
+        out[4 * i] = before.map_or(0, |j| j.task as u8);
+        out[4 * i + 1] = (gain >> 8) as u8;
+        out[4 * i + 2] = gain as u8;
+        out[4 * i + 3] = cut.map_or(0, |j| j.task as u8);
     }
-    3 * labels.len()
+    4 * labels.len()
 }
 
 // Keeps the best time a slot.
@@ -37,8 +43,8 @@ fn main() {
             plan.extend(t.value.to_be_bytes());
         }
         plan.extend([2, policy, 3, 1, 4, 0, 15, 0, 5]);
-        let mut a = vec![0u8; 12288];
-        let mut b = vec![0u8; 12288];
+        let mut a = vec![0u8; 16384];
+        let mut b = vec![0u8; 16384];
         let (mut ours, mut theirs) = (f64::MAX, f64::MAX);
         let (mut proved, mut written) = (0, 0);
         for _ in 0..rounds {

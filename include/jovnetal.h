@@ -18,7 +18,7 @@ extern "C" {
    fewer the refusal is 11. */
 #define JOVNETAL_WORK_ROOM 65536
 #define JOVNETAL_CERTIFICATE_ROOM 19471
-#define JOVNETAL_TRACE_ROOM 12288
+#define JOVNETAL_TRACE_ROOM 16384
 #define JOVNETAL_PLAN_ROOM 1049
 #define JOVNETAL_FIRST_PLAN_ROOM 1045
 
@@ -39,8 +39,9 @@ uint64_t jovnetal_solve(const uint8_t *plan, size_t plan_length, uint8_t *work, 
 uint64_t jovnetal_check(const uint8_t *plan, size_t plan_length, const uint8_t *certificate, size_t certificate_length,
                         uint8_t *work, size_t work_length, uint64_t numbers[4]);
 
-/* Traces a plan's policy over labels, one byte each: for each label three bytes are written to out, the task that ran (0 for
-   none) and the gain of the slot, most significant byte first.
+/* Traces a plan's policy over labels, one byte each: for each label four bytes are written to out, the task that ran, the gain of the slot in
+   two bytes, most significant first, and the task of the job that was displaced: the one that ran in the slot before, if it is unfinished,
+   still there and does not run now. A task is 0 for none.
    Answers the number of bytes written, or JOVNETAL_REFUSED + n: 11, 1 to 4, 12, 13.
    Memory: bytes of out past the last one written keep what they had; after a refusal all do. */
 uint64_t jovnetal_trace(const uint8_t *plan, size_t plan_length, const uint8_t *labels, size_t label_count,

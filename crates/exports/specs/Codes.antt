@@ -12,9 +12,11 @@ use Rattle.model.specs.Combine.{combine, AdmitsBoth, ManyReached}
 use Rattle.model.specs.Convert.{forth, back, widened, Converted, Unsaid, CertificateCarried, CarriesOver}
 use Rattle.model.specs.Edition.{Edition, firstEdition, longReads, planRoomIn}
 use Rattle.model.specs.Gap.{isTask, taskGap, HasGap}
+use Rattle.model.specs.Interrupted.{TellsCuts, cutIn}
 use Rattle.model.specs.Plan.{Plan, sound, readPlan, readPlanIn, IsSoundIn}
 use Rattle.model.specs.PlanBytes.{planBytesIn, planBytes}
 use Rattle.model.specs.Refusals.{tooManyPairs, notInFirst}
+use Rattle.model.specs.Trace.{trace, traceBytes}
 use Rattle.solver.specs.declared.Answer as solver
 use Rattle.solver.specs.declared.Answer.the-variants as solved
 use Rattle.refusals.specs.Numbers.{refusalNumber}
@@ -57,7 +59,12 @@ pub record TellsAs {A : Type 0} (spell : A → List ℕ) (due : Writing A) (out 
   pub code : r ≡ codeOf (resultOf spell due)
   pub output : out′ ≡ outputAfter spell due out
 
--- the gap call's promise by that number: what is due, and bytes that were written have the gap
+-- the trace call's promise by that number: what is due; and where bytes were written, the fourth of each label tells who was interrupted
+pub record TracesAs (plan labels out out′ : List ℕ) (r : ℕ) : Type 0 where
+  pub tells : TellsAs traceBytes (trace plan labels (length out)) out out′ r
+  pub cuts : (P : Plan) → readPlan plan ≡ sound P → r < 65536 → TellsCuts P labels (cutIn out′)
+
+-- the gap call's: what is due, and bytes that were written have the gap
 pub record RewritesAs (plan : List ℕ) (task slots : ℕ) (out out′ : List ℕ) (r : ℕ) : Type 0 where
   pub tells : TellsAs planBytes (taskGap plan task slots (length out)) out out′ r
   pub kept : (P : Plan) → readPlan plan ≡ sound P → r < 65536 → HasGap P (isTask task) slots (take r out′)

@@ -6,8 +6,7 @@ ghost use lib.ListN.{length};
 ghost use Rattle.model.specs.Bytes.{workAfter};
 ghost use Rattle.model.specs.Check.{check};
 ghost use Rattle.model.specs.Limits.{workRoom};
-ghost use Rattle.model.specs.Trace.{trace, traceBytes};
-ghost use Rattle.exports.specs.Codes.{codeOf, checkCode, numbersAfter, TellsAs, SolvesAs, RewritesAs, CombinesAs, ForthAs, BackAs, WidenedAs};
+ghost use Rattle.exports.specs.Codes.{codeOf, checkCode, numbersAfter, TracesAs, SolvesAs, RewritesAs, CombinesAs, ForthAs, BackAs, WidenedAs};
 ghost use Rattle.refusals.specs.Told.{resultBy};
 
 // The number of bytes written, or 65,536 and the number of the refusal.
@@ -23,7 +22,7 @@ fn code(answer: Answer) -> u64
 // The trace call: the number of bytes written, or 65,536 and the number of the refusal.
 #[no_mangle]
 pub extern "C" fn jovnetal_trace(plan: &[u8], labels: &[u8], out: &mut [u8]) -> u64
-    ensures { λ r. ⌜ TellsAs traceBytes (trace (now (plan .entry)) (now (labels .entry)) (length (now (out .entry)))) (now (out .entry)) (now (out .exit)) r ⌝ }
+    ensures { λ r. ⌜ TracesAs (now (plan .entry)) (now (labels .entry)) (now (out .entry)) (now (out .exit)) r ⌝ }
 {
     code(tracer::trace(plan, labels, out))
 }

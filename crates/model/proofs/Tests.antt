@@ -9,7 +9,7 @@ use native.Mathlib.Omega.{arith}
 use lib.Dec.{T, eqb}
 use lib.ListN.{length, getD}
 use borrow.Author.Tests.{eqb-true, eq-eqb}
-use Rattle.model.specs.Lists.{all, sameBy, sameNumbers, one}
+use Rattle.model.specs.Lists.{all, any, sameBy, sameNumbers, one}
 use Rattle.model.proofs.Plan.{both}
 
 -- a test that holds is true
@@ -87,6 +87,21 @@ all-each f (x ∷ l) =
           let two = both (f x) (all f l) h in
           ⊎-elim (λ p. ap f p ∙ two .0) (later .0 (two .1) a) (List·Memᴰ·cases-cons m),
       λ h. true-and (f x) (all f l) (h x (List·Memᴰ·head refl)) (later .1 (λ a m. h a (List·Memᴰ·tail m))),
+    )
+
+-- a test of some element is that there is one that passes
+pub any-some {ℓ} : {A : Type ℓ} (f : A → Bool) (l : List A) → (any f l ≡ true) ↔ ((a : A) × List·Memᴰ a l × (f a ≡ true))
+any-some f [] = (λ h. absurd (false≢true h), λ r. absurd (List·Memᴰ·not-nil (r .1)))
+any-some f (x ∷ l) =
+    let later = any-some f l in (
+      λ h.
+          ⊎-elim (λ t. (x, List·Memᴰ·head refl, is-true (f x) t))
+          (λ t. let r = later .0 (is-true (any f l) t) in (r .0, List·Memᴰ·tail (r .1), r .2))
+          (or-cases (f x) (any f l) (holds h)),
+      λ r.
+          is-true (f x || any f l)
+          (⊎-elim (λ e. or-left (f x) (any f l) (holds (ap f (sym e) ∙ r .2))) (λ m. or-right (f x) (any f l) (holds (later .1 (r .0, m, r .2))))
+          (List·Memᴰ·cases-cons (r .1))),
     )
 
 -- a test that decides whether two are the same, of two lists one by one

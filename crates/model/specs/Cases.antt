@@ -12,7 +12,7 @@ use Rattle.model.specs.Lists.{flatMap, upFrom}
 use Rattle.model.specs.Discovery.{found}
 use Rattle.model.specs.Bytes.{number, bytes, signed, complement}
 use Rattle.model.specs.Plan.{Plan, sound, readPlan, readPlanIn, readFrom, firstFault, fault, after, width, lastOperand, mayFollow, inRange, taskInRange, arcInRange}
-use Rattle.model.specs.Slot.{Done, slot, ready, first, key}
+use Rattle.model.specs.Slot.{slot, ready, first, key}
 use Rattle.model.specs.Masks.{masksOf}
 use Rattle.model.specs.Graph.{choices, edgeOf, edgesAt, edges, nodes, tooLarge}
 use Rattle.model.specs.Certificate.{Certificate, certificateBytesIn, certificateBytes, readCertificate, readCertificateIn, readPotentials, readSteps}
@@ -20,7 +20,7 @@ use Rattle.model.specs.Check.{CheckAnswer, check, verdict, fractionOk, g
 use Rattle.model.specs.Thousandths.{thousandths}
 use Rattle.model.specs.Passes.{beginning, relaxNode, pass, PassesTo, last, more}
 use Rattle.model.specs.Calls.{Writing, refuses, writes}
-use Rattle.model.specs.Trace.{trace, traceRun}
+use Rattle.model.specs.Trace.{Row, trace, traceRun}
 use Rattle.model.specs.PlanBytes.{planBytesIn}
 use Rattle.model.specs.Convert.{forth, back, widened}
 
@@ -35,11 +35,11 @@ pub data Input : Type 0 where
   returning : List ℕ → Input
   widening : List ℕ → Input
 
--- what comes out: the numbers of the checked line; the task that ran and the gain of each slot; the potentials; m; bytes;
+-- what comes out: the numbers of the checked line; the task that ran, the gain and the task cut in each slot; the potentials; m; bytes;
 -- a refusal
 pub data Output : Type 0 where
   line : (p q n k : ℕ) (m : Option ℕ) → Output
-  slots : List (ℕ × ℕ) → Output
+  slots : List (ℕ × ℕ × ℕ) → Output
   signs : List ℤ → Output
   prints : Option ℕ → Output
   wrote : List ℕ → Output
@@ -49,9 +49,9 @@ abbrev pub checked : CheckAnswer → Output
 checked (CheckAnswer.refused n) = refusal n
 checked (CheckAnswer.share p q n k) = line p q n k (thousandths p q)
 
-abbrev pub traced : Writing (List Done) → Output
+abbrev pub traced : Writing (List Row) → Output
 traced (refuses n) = refusal n
-traced (writes ds) = slots (map (λ d. (d .ran, d .gain)) ds)
+traced (writes rs) = slots (map (λ r. (r .ran, r .gain, r .cut)) rs)
 
 abbrev pub written : {A : Type 0} → (A → List ℕ) → Writing A → Output
 written spell (refuses n) = refusal n
@@ -122,6 +122,10 @@ certificateF =
     ++ ((0x13 ∷ 0x00 ∷ 0x00 ∷ 0x14 ∷ 0x01 ∷ 0x03 ∷ 0xff ∷ replicate 6 0x00)
     ++ (flatMap (λ i. 0x14 ∷ replicate 9 0x00) (upFrom 1 9) ++ (0x15 ∷ []))))
 
+-- G, of our own: tasks (1,1,1) and (2,4,3), EDF, one state admitting labels 0 to 3
+abbrev pub planG : List ℕ
+planG = 0x01 ∷ 0x01 ∷ 0x01 ∷ 0x00 ∷ 0x01 ∷ 0x01 ∷ 0x02 ∷ 0x04 ∷ 0x00 ∷ 0x03 ∷ 0x02 ∷ 0x01 ∷ 0x03 ∷ 0x01 ∷ 0x04 ∷ 0x00 ∷ 0x00 ∷ 0x00 ∷ 0x04 ∷ 0x00 ∷ 0x01 ∷ 0x00 ∷ 0x04 ∷ 0x00 ∷ 0x02 ∷ 0x00 ∷ 0x04 ∷ 0x00 ∷ 0x03 ∷ 0x00 ∷ 0x05 ∷ []
+
 -- A and its certificate as the first edition has them: `01 01 01 01 02 01 03 01 04 00 00 00 04 00 01 00 05`
 abbrev pub firstPlanA : List ℕ
 firstPlanA = 0x01 ∷ 0x01 ∷ 0x01 ∷ 0x01 ∷ 0x02 ∷ 0x01 ∷ 0x03 ∷ 0x01 ∷ 0x04 ∷ 0x00 ∷ 0x00 ∷ 0x00 ∷ 0x04 ∷ 0x00 ∷ 0x01 ∷ 0x00 ∷ 0x05 ∷ []
@@ -142,14 +146,18 @@ abbrev pub fiveTasks : List ℕ
 fiveTasks = flatMap (λ i. 0x01 ∷ 0x01 ∷ 0x01 ∷ 0x00 ∷ 0x01 ∷ []) (upFrom 1 4) ++ planD
 
 -- "Case B with labels 3, 0 now runs task 1, then task 2, and gains 1, then 0; its fraction becomes 0/1 with m 0"; "1/16 prints 62 and 3/16
--- prints 188", "`none` is kept for 1/0", and 1/3, of which the rest is 1 and no half of 3; "with D 11 in place of D 9". Of our own: A sent forth
--- and back, long-read bytes sent forth, D 9 and V 256 sent back, D 9 with a fault behind it, and A's certificate widened.
+-- prints 188", "`none` is kept for 1/0", and 1/3, of which the rest is 1 and no half of 3; "with D 11 in place of D 9"; "Trace case B has `0`, `2`,
+-- `0` in it". Of our own: in B, with label 1 behind, a job that its deadline removed is not cut; in G task 2 is cut in slot 1 and not again
+-- in slot 2, nor in slot 6, where the job that ran is done and the one that waits is another; A sent forth and back, long-read bytes sent
+-- forth, D 9 and V 256 sent back, D 9 with a fault behind it, and A's certificate widened.
 abbrev pub cases : List Case
 cases =
     (checking planA certificateA gives line 1 1 1 0 (some 1000))
     ∷ (checking planB certificateB gives line 0 1 5 0 (some 0))
-    ∷ (tracing planB (2 ∷ 1 ∷ 0 ∷ []) gives slots ((2, 0) ∷ (1, 1) ∷ (0, 0) ∷ []))
-    ∷ (tracing planB (3 ∷ 0 ∷ []) gives slots ((1, 1) ∷ (2, 0) ∷ []))
+    ∷ (tracing planB (2 ∷ 1 ∷ 0 ∷ []) gives slots ((2, 0, 0) ∷ (1, 1, 2) ∷ (0, 0, 0) ∷ []))
+    ∷ (tracing planB (3 ∷ 0 ∷ []) gives slots ((1, 1, 0) ∷ (2, 0, 0) ∷ []))
+    ∷ (tracing planB (3 ∷ 0 ∷ 1 ∷ []) gives slots ((1, 1, 0) ∷ (2, 0, 0) ∷ (1, 1, 0) ∷ []))
+    ∷ (tracing planG (2 ∷ 1 ∷ 1 ∷ 0 ∷ 2 ∷ 2 ∷ 1 ∷ []) gives slots ((2, 0, 0) ∷ (1, 1, 2) ∷ (1, 1, 0) ∷ (2, 3, 0) ∷ (2, 0, 0) ∷ (2, 3, 0) ∷ (1, 1, 0) ∷ []))
     ∷ (checking planC certificateC gives line 1 0 2 1 none)
     ∷ (potentials certificateC gives signs (pos 0 ∷ negsuc 0 ∷ []))
     ∷ (checking planD certificateD gives line 1 0 1 0 none)

@@ -7,17 +7,12 @@ use mathlib.Core.Logic.{_⊎_}
 use mathlib.Core.Option.{Option, none, some}
 use lib.ListN.{length}
 use Rattle.model.specs.Plan.{Plan}
-use Rattle.model.specs.Slot.{Job, keyBelow, worked, tick, ready, keyOf, chosenIn, slot}
+use Rattle.model.specs.Slot.{Job, idOf, keyBelow, worked, tick, ready, keyOf, chosenIn, slot, jobsAfter}
 
 -- a job "that can't finish": it is still there, with more work remaining than slots left
 pub record Hopeless (j : Job) : Type 0 where
   pub present : 0 < j .left
   pub short : j .left < j .work
-
--- the jobs that the slots of the labels leave: "each label finds .. the jobs that the label before it left"
-abbrev pub jobsAfter : Plan → List Job → List ℕ → List Job
-jobsAfter P js [] = js
-jobsAfter P js (l ∷ ls) = jobsAfter P (slot P js l .jobs) ls
 
 -- a job after steps 3 and 4 of a slot that chose this job, if any
 abbrev pub afterChoice : Option Job → Job → Job
@@ -37,7 +32,7 @@ IsFirst k j js = (i : Job) → List·Memᴰ i js → (i ≡ j) ⊎ (keyBelow (k 
 -- and where it is chosen it runs and nothing is gained.
 pub record Unpaid (P : Plan) (js : List Job) (j : Job) : Type 0 where
   pub chosen : (l : ℕ) → IsFirst (keyOf P) j (ready P js l) → chosenIn P js l ≡ some j
-  pub runs : (l : ℕ) → chosenIn P js l ≡ some j → (slot P js l .ran ≡ j .task) × (slot P js l .gain ≡ 0)
+  pub runs : (l : ℕ) → chosenIn P js l ≡ some j → (slot P js l .ran ≡ some (idOf (tick j))) × (slot P js l .gain ≡ 0)
 
 -- "a job that can't finish may be chosen, runs, gains nothing, and leaves when its slots left reach 0", whatever labels follow
 pub record StaysUnpaid (P : Plan) (js : List Job) (j : Job) : Type 0 where

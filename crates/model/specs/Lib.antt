@@ -19,6 +19,7 @@ pub mod Solve
 pub mod Calls
 pub mod Trace
 pub mod Hopeless
+pub mod Interrupted
 pub mod PlanBytes
 pub mod Gap
 pub mod Combine

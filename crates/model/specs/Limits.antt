@@ -40,7 +40,7 @@ maxQ = 268431360
 abbrev pub maxPotential : ℕ
 maxPotential = 2 ^ 56
 
--- the bytes of work memory, and the most that a certificate ("to 19,471 bytes") and a trace take
+-- the bytes of work memory, and the most that a certificate ("to 19,471 bytes") and a trace ("16,384 at most") take
 abbrev pub workRoom : ℕ
 workRoom = 65536
 
@@ -48,7 +48,7 @@ abbrev pub certificateRoom : ℕ
 certificateRoom = 19471
 
 abbrev pub traceRoom : ℕ
-traceRoom = 12288
+traceRoom = 16384
 
 -- a gap is of 1 to 16 slots: its automaton has as many states
 abbrev pub maxGap : ℕ

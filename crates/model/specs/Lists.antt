@@ -1,6 +1,6 @@
 -- Lists and bits, as the other files use them.
 use Prim.Native.Nat.{ℕ, zero, suc, _+_, _/_, _%_, _^_}
-use mathlib.Core.Bool.{Bool, true, false, _&&_}
+use mathlib.Core.Bool.{Bool, true, false, _&&_, _||_}
 use mathlib.Core.List.{List, [], _∷_, _++_}
 use mathlib.Core.Option.{Option, none, some}
 use lib.Dec.{eqb}
@@ -19,6 +19,11 @@ module _ {ℓ} {A : Type ℓ} where
   abbrev pub all : (A → Bool) → List A → Bool
   all f [] = true
   all f (x ∷ xs) = f x && all f xs
+
+  -- some element passes the test
+  abbrev pub any : (A → Bool) → List A → Bool
+  any f [] = false
+  any f (x ∷ xs) = f x || any f xs
 
   -- the sum of a number for each element
   abbrev pub sumOf : (A → ℕ) → List A → ℕ

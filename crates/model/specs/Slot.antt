@@ -1,11 +1,11 @@
 -- A slot of a policy.
 use Prim.Native.Nat.{ℕ, suc, _-_, _/_, _%_}
-use mathlib.Core.Bool.{Bool, false, cond, _&&_, _||_}
+use mathlib.Core.Bool.{Bool, false, cond, not, _&&_, _||_}
 use mathlib.Core.List.{List, [], _∷_, _++_, map, foldl}
 use mathlib.Core.Option.{Option, none, some}
 use lib.Dec.{ltb, eqb}
 use lib.ListN.{getD}
-use Rattle.model.specs.Lists.{consIf, keep}
+use Rattle.model.specs.Lists.{consIf, keep, any, listOf}
 use Rattle.model.specs.Plan.{Task, Plan}
 
 -- a job of the policy: its task (numbered from 1), work remaining and slots left
@@ -67,9 +67,20 @@ sooner k (some m) j = some (cond (keyBelow (k j) (k m)) j m)
 unfoldable pub first : (Job → List ℕ) → List Job → Option Job
 first k js = foldl (sooner k) none js
 
--- the same job: a task's jobs are released in different slots, so its slots left tell them apart
+-- which job it is: a task's jobs are released in different slots, so its slots left tell them apart
+pub record JobId : Type 0 where
+  pub task : ℕ
+  pub left : ℕ
+
+abbrev pub idOf : Job → JobId
+idOf j = record { task = j .task; left = j .left }
+
+abbrev pub hasId : JobId → Job → Bool
+hasId i j = eqb (i .task) (j .task) && eqb (i .left) (j .left)
+
+-- the same job
 abbrev pub isJob : Job → Job → Bool
-isJob j k = eqb (j .task) (k .task) && eqb (j .left) (k .left)
+isJob j k = hasId (idOf j) k
 
 -- 3. the first "runs one slot. Work falls by 1."
 abbrev pub worked : Job → Job → Job
@@ -79,21 +90,24 @@ worked chosen j = record { task = j .task; work = cond (isJob chosen j) (j .work
 abbrev pub tick : Job → Job
 tick j = record { task = j .task; work = j .work; left = j .left - 1 }
 
-abbrev pub stays : Job → Bool
-stays j = ltb 0 (j .work) && ltb 0 (j .left)
+abbrev pub unfinished : Job → Bool
+unfinished j = ltb 0 (j .work)
 
--- what a slot leaves: the jobs, the task that ran (0: none) and the slot's gain
+abbrev pub stays : Job → Bool
+stays j = unfinished j && ltb 0 (j .left)
+
+-- what a slot leaves: the jobs, which job ran, if any, by its slots left after the slot, and the slot's gain
 pub record Done : Type 0 where
   pub jobs : List Job
-  pub ran : ℕ
+  pub ran : Option JobId
   pub gain : ℕ
 
 -- "At 0 the job is done and V is gained in this slot."
 abbrev pub runFirst : List Task → List Job → Option Job → Done
-runFirst ts js none = record { jobs = keep stays (map tick js); ran = 0; gain = 0 }
+runFirst ts js none = record { jobs = keep stays (map tick js); ran = none; gain = 0 }
 runFirst ts js (some chosen) = record {
   jobs = keep stays (map tick (map (worked chosen) js));
-  ran = chosen .task;
+  ran = some (idOf (tick chosen));
   gain = cond (eqb (chosen .work) 1) (taskOf ts (chosen .task) .value) 0;
 }
 
@@ -112,3 +126,23 @@ chosenIn P js l = first (keyOf P) (ready P js l)
 -- one slot with a label, from the jobs that the slot before left
 unfoldable pub slot : Plan → List Job → ℕ → Done
 slot P js l = runFirst (P .tasks) (ready P js l) (chosenIn P js l)
+
+-- the jobs that the slots of the labels leave: "each label finds .. the jobs that the label before it left"
+abbrev pub jobsAfter : Plan → List Job → List ℕ → List Job
+jobsAfter P js [] = js
+jobsAfter P js (l ∷ ls) = jobsAfter P (slot P js l .jobs) ls
+
+-- ---- the job that is displaced
+
+-- "Choosing the next job must also say which job it displaces: the one that ran in the slot before, if that is unfinished, still present
+-- and not chosen now." The list is of the jobs that the slot finds.
+abbrev pub displaced : Option JobId → List Job → Option Job → Option JobId
+displaced none js chosen = none
+displaced (some ran) js chosen =
+    let present = any (λ j. hasId ran j && unfinished j) js in
+    let runsOn = any (hasId ran) (listOf chosen) in
+    cond (present && not runsOn) (some ran) none
+
+-- by the choice of a slot with a label, where this job ran in the slot before
+abbrev pub displacedIn : Plan → Option JobId → List Job → ℕ → Option JobId
+displacedIn P ran js l = displaced ran js (chosenIn P js l)

@@ -6,7 +6,7 @@ use mathlib.Core.Option.{Option, none, some}
 use lib.Dec.{ltb}
 use Rattle.model.specs.Lists.{flatMap}
 use Rattle.model.specs.Masks.{maskTable}
-use Rattle.model.specs.Slot.{Done}
+use Rattle.model.specs.Trace.{Row}
 use Rattle.model.specs.Check.{CheckAnswer, refused, share}
 use Rattle.model.specs.Thousandths.{thousandths}
 use Rattle.model.specs.Calls.{Writing, refuses, writes}
@@ -31,7 +31,7 @@ field n = decimal n ++ space
 abbrev pub lineFeed : List ℕ
 lineFeed = 10 ∷ []
 
--- a number alone on its line
+-- a number that ends its line
 abbrev pub numberLine : ℕ → List ℕ
 numberLine n = decimal n ++ lineFeed
 
@@ -50,25 +50,25 @@ checkText (refused n) = refusedLine n
 checkText (share p q n k) =
     field p ++ field q ++ field n ++ field k ++ thousandthsText (thousandths p q) ++ lineFeed
 
--- "The first line of the trace is `slot label run gain`"
+-- "The first line of the trace is `slot label run gain`", with "a last column `cut`", "header included"
 abbrev pub traceHeader : List ℕ
 traceHeader =
-    115 ∷ 108 ∷ 111 ∷ 116 ∷ 32 ∷ 108 ∷ 97 ∷ 98 ∷ 101 ∷ 108 ∷ 32 ∷ 114 ∷ 117 ∷ 110 ∷ 32 ∷ 103 ∷ 97 ∷ 105 ∷ 110 ∷ 10 ∷ []
+    115 ∷ 108 ∷ 111 ∷ 116 ∷ 32 ∷ 108 ∷ 97 ∷ 98 ∷ 101 ∷ 108 ∷ 32 ∷ 114 ∷ 117 ∷ 110 ∷ 32 ∷ 103 ∷ 97 ∷ 105 ∷ 110 ∷ 32 ∷ 99 ∷ 117 ∷ 116 ∷ 10 ∷ []
 
--- "then a line per label: its slot, the label, the task that ran (0: none), the slot's gain"
-unfoldable pub traceLine : ℕ → ℕ → ℕ → ℕ → List ℕ
-traceLine slot label ran gain =
-    field slot ++ field label ++ field ran ++ decimal gain ++ lineFeed
+-- "then a line per label: its slot, the label, the task that ran (0: none), the slot's gain", and "the displaced job's task, 0 for none"
+unfoldable pub traceLine : ℕ → ℕ → Row → List ℕ
+traceLine slot label r =
+    field slot ++ field label ++ field (r .ran) ++ field (r .gain) ++ numberLine (r .cut)
 
 -- the lines from a slot on
-abbrev pub traceLines : ℕ → List ℕ → List Done → List ℕ
-traceLines t [] ds = []
+abbrev pub traceLines : ℕ → List ℕ → List Row → List ℕ
+traceLines t [] rs = []
 traceLines t (l ∷ ls) [] = []
-traceLines t (l ∷ ls) (d ∷ ds) = traceLine t l (d .ran) (d .gain) ++ traceLines (suc t) ls ds
+traceLines t (l ∷ ls) (r ∷ rs) = traceLine t l r ++ traceLines (suc t) ls rs
 
-unfoldable pub traceText : List ℕ → Writing (List Done) → List ℕ
+unfoldable pub traceText : List ℕ → Writing (List Row) → List ℕ
 traceText labels (refuses n) = refusedLine n
-traceText labels (writes ds) = traceHeader ++ traceLines 0 labels ds
+traceText labels (writes rs) = traceHeader ++ traceLines 0 labels rs
 
 -- What a program that writes a plan or a certificate writes: its bytes, or the line of the refusal.
 unfoldable pub writingText : {A : Type 0} → (A → List ℕ) → Writing A → List ℕ

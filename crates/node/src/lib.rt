@@ -45,7 +45,7 @@ impl Node {
     // The least work memory, and the most bytes of a trace, of a certificate and of a plan, in the long-read edition and in the first.
     pub const WORK_ROOM: usize = 65536;
 
-    pub const TRACE_ROOM: usize = 12288;
+    pub const TRACE_ROOM: usize = 16384;
 
     pub const CERTIFICATE_ROOM: usize = 19471;
 

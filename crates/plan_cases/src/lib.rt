@@ -2,7 +2,7 @@
 pub mod combines; // combines.rt: two plans, and an output
 pub mod gaps; // gaps.rt: a plan, a task and a gap, and an output
 pub mod plans; // plans.rt: a plan
-pub mod traces; // traces.rt: a plan and its labels
+pub mod traces; // traces.rt: a plan and its labels, and the output lent to the trace call
 
 ghost use mathlib.Core.Path.{_≡_};
 ghost use Rattle.plan_cases.specs.Kinds.{isPlanKind};
@@ -14,6 +14,8 @@ const TRACE: u8 = 2;
 const GAP: u8 = 5;
 
 const COMBINE: u8 = 6;
+
+const TRACE_CALL: u8 = 12;
 
 // Runs the next case of the file if its kind is one of these, and answers whether it is.
 pub fn run(kind: u8, file: i32) -> bool
@@ -34,6 +36,10 @@ pub fn run(kind: u8, file: i32) -> bool
         }
         COMBINE => {
             combines::combine_case(file);
+            true
+        }
+        TRACE_CALL => {
+            traces::trace_call_case(file);
             true
         }
         _ => false,

@@ -24,13 +24,13 @@ only false m = absurd (List·Memᴰ·not-nil m)
 
 module _ (ts : Tasks) (cells : List ℕ) where
   -- where a job of the view comes from
-  job-cell : (n : ℕ) → length cells ≡ n → (j : Job) → List·Memᴰ j (jobsOf ts cells) → (k : ℕ) × (k < n) × (0 < getD cells k 0) × (j ≡ jobIn ts k (getD cells k 0))
+  pub job-cell : (n : ℕ) → length cells ≡ n → (j : Job) → List·Memᴰ j (jobsOf ts cells) → (k : ℕ) × (k < n) × (0 < getD cells k 0) × (j ≡ jobIn ts k (getD cells k 0))
   job-cell n e j m =
       let t = mem-of-flatMap (λ k. jobsIn ts k (getD cells k 0)) (upFrom 0 n) (subst (List·Memᴰ j) (jobs-sized ts n cells e) m) in
       let o = only (ltb 0 (getD cells (t .0) 0)) (t .2) in
       (t .0, omega (arith, mem-of-upFrom 0 n (t .1)), ltb-true 0 (getD cells (t .0) 0) (o .0), o .1)
 
-  cell-job : (n : ℕ) → length cells ≡ n → (k : ℕ) → k < n → 0 < getD cells k 0 → List·Memᴰ (jobIn ts k (getD cells k 0)) (jobsOf ts cells)
+  pub cell-job : (n : ℕ) → length cells ≡ n → (k : ℕ) → k < n → 0 < getD cells k 0 → List·Memᴰ (jobIn ts k (getD cells k 0)) (jobsOf ts cells)
   cell-job n e k lt p =
       subst (List·Memᴰ (jobIn ts k (getD cells k 0))) (sym (jobs-sized ts n cells e))
       (mem-flatMap (λ i. jobsIn ts i (getD cells i 0)) (mem-upFrom 0 n {a = k} (omega arith) (omega arith)) (rw (lt-ltb 0 (getD cells k 0) p) (List·Memᴰ·head refl)))

@@ -13,7 +13,7 @@ use lib.Seq.{getD-set-same, getD-set-other}
 use Rattle.model.specs.Limits.{maxTasks, maxWindow}
 use Rattle.model.specs.Lists.{consIf, keep, flatMap, upFrom}
 use Rattle.model.specs.Plan.{Task}
-use Rattle.model.specs.Slot.{Job, noTask, worked, tick, stays}
+use Rattle.model.specs.Slot.{Job, noTask, worked, tick, unfinished, stays}
 use Rattle.model.proofs.Lists.{flatMap-append, getD-table, mem-of-upFrom, upFrom-append, flatMap-same, flatMap-none}
 use Rattle.policy.specs.View.{Tasks, cellCount, slotCells, taskIn, taskAt, leftIn, leftTable, jobIn, jobsIn, jobsOf, InRange, TasksInRange, Cells, Leaves, workedIn, stayingIn, aged}
 use Rattle.policy.proofs.Lists.{keep-flatMap, map-flatMap, flatMap-shift, map-shift, length-table}
@@ -96,7 +96,7 @@ empty-cells ts n = record { size = length-replicate n 0; work = λ k. omega (ari
 same-task : (ts : Tasks) (k : ℕ) → taskAt ts (k + maxTasks) ≡ taskAt ts k
 same-task ts k = ap (λ i. getD ts i noTask) (omega arith)
 
-left-falls : (ts : Tasks) (k : ℕ) → k < cellCount → leftIn ts (k + maxTasks) - 1 ≡ leftIn ts k
+pub left-falls : (ts : Tasks) (k : ℕ) → k < cellCount → leftIn ts (k + maxTasks) - 1 ≡ leftIn ts k
 left-falls ts k h = omega (arith, ap (λ (t : Task). t .window) (same-task ts k))
 
 aged-cell : (ts : Tasks) (k w : ℕ) → k < cellCount → keep stays (map tick (jobsIn ts (k + maxTasks) w)) ≡ jobsIn ts k (cond (ltb 1 (leftIn ts (k + maxTasks))) w 0)
@@ -179,20 +179,16 @@ one-cell ts i k hi hk p t l =
     let same : i % maxTasks ≡ k % maxTasks = omega arith in
     omega (arith, ap (λ j. getD ts j noTask .window) same)
 
--- cells hold no job without work
-abbrev pub hasWork : Job → Bool
-hasWork j = ltb 0 (j .work)
-
 module _ (ts : Tasks) (cells : List ℕ) (at : ℕ) (h : Cells ts slotCells cells) (lt : at < slotCells) (p : 0 < getD cells at 0) where
   chosen : Job
   chosen = jobIn ts at (getD cells at 0)
 
-  run-cell : (k : ℕ) → k < slotCells → jobsIn ts k (getD (workedIn cells at) k 0) ≡ keep hasWork (map (worked chosen) (jobsIn ts k (getD cells k 0)))
+  run-cell : (k : ℕ) → k < slotCells → jobsIn ts k (getD (workedIn cells at) k 0) ≡ keep unfinished (map (worked chosen) (jobsIn ts k (getD cells k 0)))
   unfolding chosen
   run-cell k hk = here (eqb k at) refl
     where
       other : (a : Bool) → ltb 0 (getD cells k 0) ≡ a → (k ≡ at → ⊥)
-          → consIf a (jobIn ts k (getD cells k 0)) [] ≡ keep hasWork (map (worked (jobIn ts at (getD cells at 0))) (consIf a (jobIn ts k (getD cells k 0)) []))
+          → consIf a (jobIn ts k (getD cells k 0)) [] ≡ keep unfinished (map (worked (jobIn ts at (getD cells at 0))) (consIf a (jobIn ts k (getD cells k 0)) []))
       other true e ne =
           rw (differ (eqb (taskIn at) (taskIn k)) (eqb (leftIn ts at) (leftIn ts k)) refl refl, e)
         where
@@ -203,24 +199,24 @@ module _ (ts : Tasks) (cells : List ℕ) (at : ℕ) (h : Cells ts slotCells cell
           differ false b x y = refl
       other false e ne = refl
 
-      here : (b : Bool) → eqb k at ≡ b → jobsIn ts k (getD (workedIn cells at) k 0) ≡ keep hasWork (map (worked (jobIn ts at (getD cells at 0))) (jobsIn ts k (getD cells k 0)))
+      here : (b : Bool) → eqb k at ≡ b → jobsIn ts k (getD (workedIn cells at) k 0) ≡ keep unfinished (map (worked (jobIn ts at (getD cells at 0))) (jobsIn ts k (getD cells k 0)))
       here true e =
-          subst (λ j. jobsIn ts j (getD (workedIn cells at) j 0) ≡ keep hasWork (map (worked (jobIn ts at (getD cells at 0))) (jobsIn ts j (getD cells j 0))))
+          subst (λ j. jobsIn ts j (getD (workedIn cells at) j 0) ≡ keep unfinished (map (worked (jobIn ts at (getD cells at 0))) (jobsIn ts j (getD cells j 0))))
           (sym (eqb-true k at e))
           (rw (getD-set-same cells at (getD cells at 0 - 1) 0 (omega (arith, h .size)), lt-ltb 0 (getD cells at 0) p, eq-eqb (taskIn at) (taskIn at) refl, eq-eqb (leftIn ts at) (leftIn ts at) refl))
       here false e =
           rw (getD-set-other cells at k (getD cells at 0 - 1) 0 (eqb-false k at e))
           (other (ltb 0 (getD cells k 0)) refl (eqb-false k at e))
 
-  run-jobs : jobsOf ts (workedIn cells at) ≡ keep hasWork (map (worked (jobIn ts at (getD cells at 0))) (jobsOf ts cells))
+  run-jobs : jobsOf ts (workedIn cells at) ≡ keep unfinished (map (worked (jobIn ts at (getD cells at 0))) (jobsOf ts cells))
   unfolding chosen
   run-jobs =
       jobs-sized ts slotCells (workedIn cells at) (length-set cells at (getD cells at 0 - 1) ∙ h .size)
-      ∙ flatMap-same (λ k. jobsIn ts k (getD (workedIn cells at) k 0)) (λ k. keep hasWork (map (worked chosen) (jobsIn ts k (getD cells k 0)))) (upFrom 0 slotCells)
+      ∙ flatMap-same (λ k. jobsIn ts k (getD (workedIn cells at) k 0)) (λ k. keep unfinished (map (worked chosen) (jobsIn ts k (getD cells k 0)))) (upFrom 0 slotCells)
       (λ k m. run-cell k (omega (arith, mem-of-upFrom 0 slotCells m)))
-      ∙ sym (keep-flatMap hasWork (λ k. map (worked chosen) (jobsIn ts k (getD cells k 0))) (upFrom 0 slotCells))
-      ∙ ap (keep hasWork) (sym (map-flatMap (worked chosen) (λ k. jobsIn ts k (getD cells k 0)) (upFrom 0 slotCells)))
-      ∙ ap (λ js. keep hasWork (map (worked chosen) js)) (sym (jobs-sized ts slotCells cells (h .size)))
+      ∙ sym (keep-flatMap unfinished (λ k. map (worked chosen) (jobsIn ts k (getD cells k 0))) (upFrom 0 slotCells))
+      ∙ ap (keep unfinished) (sym (map-flatMap (worked chosen) (λ k. jobsIn ts k (getD cells k 0)) (upFrom 0 slotCells)))
+      ∙ ap (λ js. keep unfinished (map (worked chosen) js)) (sym (jobs-sized ts slotCells cells (h .size)))
 
   run-cells : Cells ts slotCells (workedIn cells at)
   run-cells = record {
@@ -238,5 +234,5 @@ module _ (ts : Tasks) (cells : List ℕ) (at : ℕ) (h : Cells ts slotCells cell
               (omega (arith, getD-set-same cells at (getD cells at 0 - 1) 0 (omega (arith, h .size))))
           go false e = omega (arith, getD-set-other cells at k (getD cells at 0 - 1) 0 (eqb-false k at e))
 
-  pub worked-leaves : {after : List ℕ} → after ≡ workedIn cells at → Leaves ts (keep hasWork (map (worked (jobIn ts at (getD cells at 0))) (jobsOf ts cells))) slotCells after
+  pub worked-leaves : {after : List ℕ} → after ≡ workedIn cells at → Leaves ts (keep unfinished (map (worked (jobIn ts at (getD cells at 0))) (jobsOf ts cells))) slotCells after
   worked-leaves is = leaves-same is run-jobs run-cells

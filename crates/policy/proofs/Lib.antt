@@ -4,5 +4,6 @@ pub mod NewJobs
 pub mod Keys
 pub mod Rule
 pub mod Canonical
+pub mod Interruptions
 pub mod Gain
 pub mod Plans

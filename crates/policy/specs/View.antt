@@ -1,7 +1,8 @@
 -- What the cells of a node's jobs, the rules and a slot's result stand for.
 use mathlib.Core.Path.{_≡_}
-use mathlib.Core.Bool.{cond}
+use mathlib.Core.Bool.{cond, not, _&&_}
 use mathlib.Core.List.{List, [], _++_, map}
+use mathlib.Core.Option.{Option, none, some}
 use Prim.Native.Nat.{ℕ, zero, suc, _+_, _-_, _*_, _/_, _%_, _<_, _≤_}
 use lib.Dec.{eqb, ltb}
 use lib.ListN.{length, getD, set}
@@ -9,7 +10,7 @@ use Rattle.model.specs.Limits.{maxTasks, maxWindow, maxValue}
 use Rattle.model.specs.Lists.{consIf, flatMap, upFrom, bit}
 use Rattle.model.specs.Plan as model
 use Rattle.model.specs.Slot as model-slot
-use Rattle.model.specs.Slot.{Job, noTask, edf, srt, fifo}
+use Rattle.model.specs.Slot.{Job, JobId, noTask, edf, srt, fifo}
 use Rattle.plan.specs.View.{tasksOf}
 use Rattle.plan.specs.declared.Plan.{Plan}
 use Rattle.policy.specs.declared.Rules.{Rules}
@@ -132,6 +133,17 @@ stayingIn cells left k = cond (ltb 1 (getD left k 0)) (getD cells k 0) 0
 unfoldable pub aged : List ℕ → List ℕ → List ℕ
 aged cells left = map (stayingIn cells left) (upFrom maxTasks cellCount)
 
+-- the number of the task whose job is in the cell k, 0 from slotCells on
+abbrev pub taskNumber : ℕ → ℕ
+taskNumber k = cond (ltb k slotCells) (taskIn k) 0
+
+-- "the one that ran in the slot before, if that is unfinished, still present and not chosen now", by cells: its task's number, 0 for none.
+-- What was in the cell ran is a row further up now, and gone from the first row; at is the cell that is chosen now.
+unfoldable pub displacedTask : List ℕ → ℕ → ℕ → ℕ
+displacedTask cells ran at =
+    let up = ran - maxTasks in
+    cond (ltb ran slotCells && not (ltb ran maxTasks) && ltb 0 (getD cells up 0) && not (eqb up at)) (taskIn up) 0
+
 -- the tasks of the rules, and the slots left by them
 abbrev pub tasksIn : Rules → Tasks
 tasksIn r = tasksOf (r .tasks) (r .count)
@@ -152,10 +164,15 @@ pub record RulesOf (p : Plan) (r : Rules) : Type 0 where
   pub tasks : tasksIn r ≡ tasksOf (p .tasks) (p .count)
   pub policy : r .policy ≡ p .policy
 
-abbrev pub doneOf : Tasks → Done → model-slot.Done
-doneOf ts d = record { jobs = jobsOf ts (d .cells); ran = d .ran; gain = d .gain }
+-- which job ran in the cell k, by its slots left after the slot; none from slotCells on
+abbrev pub ranIn : Tasks → ℕ → Option JobId
+ranIn ts k = cond (ltb k slotCells) (some (record { task = taskIn k; left = leftIn ts k - 1 })) none
 
--- what a slot leaves is the rule's, and cells again
+abbrev pub doneOf : Tasks → Done → model-slot.Done
+doneOf ts d = record { jobs = jobsOf ts (d .cells); ran = ranIn ts (d .ran); gain = d .gain }
+
+-- what a slot leaves is the rule's, and cells again; a job ran in the cell of the first
 pub record Slotted (r : Rules) (before : List ℕ) (label : ℕ) (d : Done) : Type 0 where
   pub rule : (P : model.Plan) → P .tasks ≡ tasksIn r → P .policy ≡ r .policy → doneOf (tasksIn r) d ≡ model-slot.slot P (jobsOf (tasksIn r) before) label
   pub cells : Cells (tasksIn r) cellCount (d .cells)
+  pub ran : d .ran ≡ firstCell (r .policy) (joinedCells (tasksIn r) before label) (r .left)

@@ -12,7 +12,7 @@ ghost use lib.ListN.{getD, replicate};
 ghost use Rattle.model.specs.Limits.{maxTasks};
 ghost use Rattle.model.specs.Plan.{IsSound};
 ghost use Rattle.plan.specs.View.{taskView, tasksOf, planOf, Sized};
-ghost use Rattle.policy.specs.View.{Tasks, cellCount, slotCells, taskAt, leftIn, leftTable, Cells, Leaves, newWork, joinedCells, keyNumber, keyIn, codeIn, firstCell, workedIn, aged, tasksIn, Ruled, RulesOf, Slotted};
+ghost use Rattle.policy.specs.View.{Tasks, cellCount, slotCells, taskAt, leftIn, leftTable, Cells, Leaves, newWork, joinedCells, keyNumber, keyIn, codeIn, firstCell, workedIn, aged, tasksIn, Ruled, RulesOf, Slotted, taskNumber, displacedTask};
 
 const MAX_TASKS: usize = Node::MAX_TASKS;
 
@@ -22,6 +22,11 @@ const MAX_WINDOW: usize = Node::MAX_WINDOW;
 pub const CELLS: usize = Node::CELLS;
 
 pub const SLOT_CELLS: usize = MAX_TASKS * MAX_WINDOW;
+
+// The cells of a row, which are of one age; and no cell, where one is named.
+const ROW: u8 = MAX_TASKS as u8;
+
+pub const NO_CELL: u8 = SLOT_CELLS as u8;
 
 // The policies; any other number is static priority.
 const EDF: u8 = Node::EDF;
@@ -48,7 +53,7 @@ pub struct Rules {
     pub left: [u8; SLOT_CELLS],
 }
 
-// What a slot leaves: the cells, the task that ran, 0 for none, and the gain.
+// What a slot leaves: the cells, the cell in which a job ran during the slot, NO_CELL for none, and the gain.
 pub struct Done {
     pub cells: [u8; CELLS],
     pub ran: u8,
@@ -266,17 +271,48 @@ pub fn slot(rules: Rules, cells: [u8; CELLS], label: u8) -> Done
         let older = age(&ready, &left);
         return Done {
             cells: older,
-            ran: 0,
+            ran: NO_CELL,
             gain: 0,
         };
     }
     let gain = gain_in(tasks, count, at, ready[at]);
     let after = run(ready, at);
     let older = age(&after, &left);
-    let ran = (at % MAX_TASKS + 1) as u8;
+    let ran = at as u8;
     Done {
         cells: older,
         ran,
         gain,
     }
+}
+
+// The number of the task whose job is in a cell; 0 from NO_CELL on.
+pub fn task_number(k: u8) -> u8
+    ensures { λ r. ⌜ r ≡ taskNumber k ⌝ }
+{
+    if NO_CELL <= k {
+        return 0;
+    }
+    k % ROW + 1
+}
+
+// The task of the job that a slot displaces, 0 for none, by the cells that it finds. A job that ran in the slot before, in the cell ran, is a
+// row further up now, if it is still there; in the cell at one runs now.
+pub fn displaced(cells: &[u8; CELLS], ran: u8, at: u8) -> u8
+    ensures { λ r. ⌜ r ≡ displacedTask (now (cells .entry)) ran at ⌝ }
+{
+    if NO_CELL <= ran {
+        return 0;
+    }
+    if ran < ROW {
+        return 0;
+    }
+    let up = ran - ROW;
+    if cells[up as usize] == 0 {
+        return 0;
+    }
+    if up == at {
+        return 0;
+    }
+    task_number(up)
 }

@@ -10,7 +10,7 @@ use borrow.Author.Tests.{lt-ltb, le-ltb, ltb-false}
 use lib.Dec.{ltb}
 use lib.ListN.{length, length-append}
 use Rattle.io.specs.Digits.{glyph, digits, Fewest}
-use Rattle.model.specs.Text.{digitsIn, decimal, space, field, refusedLine, traceLine, lineFeed, numberLine}
+use Rattle.model.specs.Text.{digitsIn, decimal, space, field, refusedLine, lineFeed, numberLine}
 
 -- a digit's code
 digit : (d : ℕ) → d < 10 → glyph d ≡ 48 + d
@@ -69,7 +69,7 @@ pub decimal-length : (k n : ℕ) → n < 10 ^ suc k → length (decimal n) ≤ s
 unfolding decimal
 decimal-length k n h = digits-length n k n h
 
-number-line-length : (n : ℕ) → length (numberLine n) ≡ length (decimal n) + 1
+pub number-line-length : (n : ℕ) → length (numberLine n) ≡ length (decimal n) + 1
 number-line-length n = length-append (decimal n) lineFeed
 
 -- the line of a refusal is a word, a space, the number and a line feed
@@ -94,15 +94,3 @@ field-length n = length-append (decimal n) space
 
 pub three-length : (x y z : ℕ) → length (field x ++ field y ++ field z) ≡ length (field x) + length (field y) + length (field z)
 three-length x y z = omega (arith, length-append (field x ++ field y) (field z), length-append (field x) (field y))
-
--- the line of a slot has three fields, a number and a line feed
-pub trace-line-length : (t l r g : ℕ) →
-    length (traceLine t l r g) ≡ length (field t) + length (field l) + length (field r) + length (decimal g) + 1
-unfolding traceLine
-trace-line-length t l r g =
-    omega (
-      arith,
-      length-append (field t ++ field l ++ field r ++ decimal g) lineFeed,
-      length-append (field t ++ field l ++ field r) (decimal g),
-      three-length t l r,
-    )

@@ -2,7 +2,7 @@
 ghost use mathlib.Core.List.{_++_};
 ghost use Prim.Native.Nat.{_+_, _≤_};
 ghost use lib.ListN.{length};
-ghost use Rattle.model.specs.Text.{decimal, field, numberLine, refusedLine, traceLine};
+ghost use Rattle.model.specs.Text.{decimal, field, numberLine, refusedLine};
 ghost use Rattle.model.specs.Bytes.{Put};
 
 // Writes some bytes at a place, and answers the place after them.
@@ -69,21 +69,4 @@ pub fn put_three_fields(out: &mut [u8], at: usize, x: u64, y: u64, z: u64) -> us
     let a = put_field(out, at, x);
     let b = put_field(out, a, y);
     put_field(out, b, z)
-}
-
-// Writes the line of a slot: its number, the label, the task that ran and the gain.
-pub fn put_trace_line(
-    out: &mut [u8],
-    at: usize,
-    slot: usize,
-    label: u8,
-    ran: u8,
-    gain: u16,
-) -> usize
-    requires { ⌜ at + length (traceLine slot label ran gain) ≤ length (now out) ⌝ }
-    ensures { λ r. ⌜ Put (now (out .entry)) (now (out .exit)) at (traceLine slot label ran gain) r ⌝ }
-{
-    let a = put_three_fields(out, at, slot as u64, label as u64, ran as u64);
-    let b = put_number(out, a, gain as u64);
-    put_bytes(out, b, b"\n")
 }

@@ -2,19 +2,18 @@
 -- Assumes nothing.
 use mathlib.Core.Path.{_≡_, refl, sym, _∙_, ap, subst}
 use mathlib.Core.Bool.{Bool, true, false, cond, _&&_, _||_, and-false, false≢true}
-use mathlib.Core.List.{List, [], _∷_, _++_, map, map-map, foldl, List·Memᴰ, List·Memᴰ·head, List·Memᴰ·tail, List·Memᴰ·not-nil, List·Memᴰ·cases-cons, Memᴰ·append-left, Memᴰ·map}
-use mathlib.Core.Logic.{_⊎_, inl, inr}
-use mathlib.Core.Option.{Option, none, some}
+use mathlib.Core.List.{List, [], _∷_, map, map-map, foldl, List·Memᴰ, List·Memᴰ·head, List·Memᴰ·tail, List·Memᴰ·not-nil, List·Memᴰ·cases-cons, Memᴰ·append-left, Memᴰ·map, Memᴰ·of-map}
+use mathlib.Core.Logic.{_⊎_, inl, inr, ⊎-elim}
+use mathlib.Core.Option.{Option, none, some, Option·none-ne-some, Option·some-injective}
 use Prim.Native.Nat.{ℕ, suc, _-_, _<_, _≤_}
 use native.Mathlib.Omega.{arith}
 use borrow.Author.Tests.{lt-ltb, le-ltb, ltb-true, eqb-true, ne-eqb}
 use lib.Dec.{ltb, eqb}
-use lib.ListN.{length, getD}
-use Rattle.model.specs.Hopeless.{Hopeless, jobsAfter, afterChoice, jobAfter, IsFirst, Unpaid, StaysUnpaid}
+use lib.ListN.{length}
+use Rattle.model.specs.Hopeless.{Hopeless, afterChoice, jobAfter, IsFirst, Unpaid, StaysUnpaid}
 use Rattle.model.specs.Lists.{keep}
 use Rattle.model.specs.Plan.{Plan}
-use Rattle.model.specs.Slot.{Job, Done, newJobs, keyBelow, sooner, first, isJob, worked, tick, stays, runFirst, ready, keyOf, chosenIn, slot}
-use Rattle.model.specs.Trace.{slots}
+use Rattle.model.specs.Slot.{Job, JobId, newJobs, keyBelow, sooner, first, idOf, isJob, worked, tick, stays, runFirst, ready, keyOf, chosenIn, slot, jobsAfter}
 use Rattle.model.proofs.Lists.{mem-keep, mem-of-keep}
 use Rattle.model.proofs.Plan.{both}
 
@@ -88,12 +87,33 @@ module _ (k : Job → List ℕ) (m : Job) where
   unfolding first
   least-key-first js h i = least-found none tt js h i
 
+-- the first is a job of the list
+module _ (k : Job → List ℕ) {c : Job} where
+  found-among : (a : Option Job) (js : List Job) → foldl (sooner k) a js ≡ some c → (a ≡ some c) ⊎ List·Memᴰ c js
+  found-among a [] e = inl e
+  found-among a (x ∷ js) e = ⊎-elim (of a) (λ m. inr (List·Memᴰ·tail m)) (found-among (sooner k a x) js e)
+    where
+      of : (a : Option Job) → sooner k a x ≡ some c → (a ≡ some c) ⊎ List·Memᴰ c (x ∷ js)
+      of none h = inr (List·Memᴰ·head (sym (Option·some-injective x c h)))
+      of (some m) h = go (keyBelow (k x) (k m)) h
+        where
+          go : (b : Bool) → some (cond b x m) ≡ some c → (some m ≡ some c) ⊎ List·Memᴰ c (x ∷ js)
+          go true e′ = inr (List·Memᴰ·head (sym (Option·some-injective x c e′)))
+          go false e′ = inl e′
+
+  pub first-among : (js : List Job) → first k js ≡ some c → List·Memᴰ c js
+  unfolding first
+  first-among js e = ⊎-elim (λ h. absurd (Option·none-ne-some c h)) (λ m. m) (found-among none js e)
+
 -- ---- one slot
 
 -- it lowers the slots left of a job by 1 and its work by at most 1
+pub after-id : (c : Option Job) (j : Job) → idOf (afterChoice c j) ≡ idOf (tick j)
+after-id none j = refl
+after-id (some chosen) j = refl
+
 after-left : (c : Option Job) (j : Job) → afterChoice c j .left ≡ j .left - 1
-after-left none j = refl
-after-left (some chosen) j = refl
+after-left c j = ap (λ (i : JobId). i .left) (after-id c j)
 
 after-work : (c : Option Job) (j : Job) → j .work ≤ suc (afterChoice c j .work)
 after-work none j = omega arith
@@ -111,6 +131,7 @@ still-hopeless c {j} h more = record {
 }
 
 module _ (P : Plan) where
+  -- the jobs that it leaves
   slot-jobs : (js : List Job) (l : ℕ) → slot P js l .jobs ≡ keep stays (map (afterChoice (chosenIn P js l)) (ready P js l))
   unfolding slot
   slot-jobs js l = go (chosenIn P js l)
@@ -119,7 +140,32 @@ module _ (P : Plan) where
       go none = refl
       go (some chosen) = ap (keep stays) (map-map tick (worked chosen) (ready P js l))
 
-  is-ready : {js : List Job} {j : Job} (l : ℕ) → List·Memᴰ j js → List·Memᴰ j (ready P js l)
+  -- each of them was there before, and has work and slots left
+  pub of-slot : (js : List Job) (l : ℕ) {j : Job} → List·Memᴰ j (slot P js l .jobs) →
+      (x : Job) × List·Memᴰ x (ready P js l) × (afterChoice (chosenIn P js l) x ≡ j) × (0 < j .work) × (0 < j .left)
+  of-slot js l {j} m =
+      let after = map (afterChoice (chosenIn P js l)) (ready P js l) in
+      let kept = mem-of-keep stays after (subst (List·Memᴰ j) (slot-jobs js l) m) in
+      let before = Memᴰ·of-map (afterChoice (chosenIn P js l)) (ready P js l) (kept .0) in
+      let two = both (ltb 0 (j .work)) (ltb 0 (j .left)) (kept .1) in
+      (before .0, before .1, before .2, ltb-true 0 (j .work) (two .0), ltb-true 0 (j .left) (two .1))
+
+  -- the job that was chosen ran
+  pub slot-ran : (js : List Job) (l : ℕ) {c : Job} → chosenIn P js l ≡ some c → slot P js l .ran ≡ some (idOf (tick c))
+  unfolding slot
+  slot-ran js l e = ap (λ c. runFirst (P .tasks) (ready P js l) c .ran) e
+
+  -- and no other
+  pub of-ran : (js : List Job) (l : ℕ) {i : JobId} → slot P js l .ran ≡ some i → (c : Job) × (chosenIn P js l ≡ some c) × (idOf (tick c) ≡ i)
+  unfolding slot
+  of-ran js l {i} e = go (chosenIn P js l) refl e
+    where
+      go : (c : Option Job) → chosenIn P js l ≡ c → runFirst (P .tasks) (ready P js l) c .ran ≡ some i → (c : Job) × (chosenIn P js l ≡ some c) × (idOf (tick c) ≡ i)
+      go none is h = absurd (Option·none-ne-some i h)
+      go (some c) is h = (c, is, Option·some-injective (idOf (tick c)) i h)
+
+  -- the next slot finds what is there
+  pub is-ready : {js : List Job} {j : Job} (l : ℕ) → List·Memᴰ j js → List·Memᴰ j (ready P js l)
   unfolding ready
   is-ready l m = Memᴰ·append-left (newJobs (P .tasks) l 1) m
 
@@ -133,9 +179,7 @@ module _ (P : Plan) where
 
   -- what a slot leaves has slots left
   left-over : (js : List Job) (l : ℕ) (k : Job) → List·Memᴰ k (slot P js l .jobs) → 0 < k .left
-  left-over js l k m =
-      ltb-true 0 (k .left)
-      (both (ltb 0 (k .work)) (ltb 0 (k .left)) (mem-of-keep stays (map (afterChoice (chosenIn P js l)) (ready P js l)) (subst (List·Memᴰ k) (slot-jobs js l) m) .1) .1)
+  left-over js l k m = of-slot js l m .4
 
   -- a job that can't finish has work for more than this slot
   hopeless-unpaid : (js : List Job) (j : Job) → List·Memᴰ j js → Hopeless j → Unpaid P js j
@@ -143,17 +187,12 @@ module _ (P : Plan) where
   hopeless-unpaid js j m h = record {
     chosen = λ l before. least-key-first (keyOf P) j (ready P js l) before (is-ready l m);
     runs = λ l e. (
-      ap (λ c. runFirst (P .tasks) (ready P js l) c .ran) e,
+      slot-ran js l e,
       ap (λ c. runFirst (P .tasks) (ready P js l) c .gain) e ∙ rw (ne-eqb (j .work) 1 (λ z. omega (arith, h .present, h .short))),
     );
   }
 
   -- ---- over labels
-
-  -- the slots of a trace are those that find the jobs left so far
-  pub slot-traced : (ls : List ℕ) (js : List Job) (l : ℕ) (rest : List ℕ) (other : Done) → getD (slots P js (ls ++ (l ∷ rest))) (length ls) other ≡ slot P (jobsAfter P js ls) l
-  slot-traced [] js l rest other = refl
-  slot-traced (k ∷ ls) js l rest other = slot-traced ls (slot P js k .jobs) l rest other
 
   hopeless-after : (ls : List ℕ) (js : List Job) (j : Job) → List·Memᴰ j js → Hopeless j → length ls < j .left →
       List·Memᴰ (jobAfter P js j ls) (jobsAfter P js ls) × Hopeless (jobAfter P js j ls)

@@ -6,6 +6,7 @@ pub mod Sound
 pub mod Walks
 pub mod Schedules
 pub mod Hopeless
+pub mod Interrupted
 pub mod Cycles
 pub mod Nodes
 pub mod Relaxing

@@ -204,7 +204,7 @@ unfolding traceRun
 long-labels P ls more h = many (ls ++ more) (omega (arith, length-append ls more)) ∙ sym (many ls h)
   where
     many : (l : List ℕ) → maxLabels < length l → traceRun P l ≡ refuses tooManyLabels
-    many l h = ap (λ (b : Bool). cond b (refuses tooManyLabels) (cond (admits P l) (writes (slots P [] l)) (refuses notAdmitted))) (lt-ltb maxLabels (length l) h)
+    many l h = ap (λ (b : Bool). cond b (refuses tooManyLabels) (cond (admits P l) (writes (slots P none [] l)) (refuses notAdmitted))) (lt-ltb maxLabels (length l) h)
 
 -- ---- certificates
 

@@ -6,18 +6,21 @@ use policy::Rules;
 use refusals::Answer;
 use refusals::Refusal;
 ghost use mathlib.Core.Path.{_≡_};
-ghost use mathlib.Core.List.{[], _∷_};
+ghost use mathlib.Core.List.{[]};
+ghost use mathlib.Core.Option.{none};
 ghost use Prim.Native.Nat.{_+_, _*_, _≤_};
 ghost use lib.ListN.{length};
-ghost use Rattle.model.specs.Bytes.{bytes, overwrite};
+ghost use Rattle.model.specs.Bytes.{overwrite};
 ghost use Rattle.model.specs.Limits.{traceRoom};
 ghost use Rattle.model.specs.Plan as model;
 ghost use Rattle.model.specs.Schedule.{admits};
 ghost use Rattle.model.specs.Trace as model-trace;
+ghost use Rattle.model.specs.Trace.{rowSize};
 ghost use Rattle.plan.specs.View.{arcsIn, planOf, Sized, StatesFit};
 ghost use Rattle.policy.specs.View.{tasksIn, Ruled};
 ghost use Rattle.refusals.specs.Told.{Told};
 ghost use Rattle.tracer.specs.Promise.{Traces};
+ghost use Rattle.tracer.specs.Rows.{rowView};
 
 // The most that a trace takes, and the most labels.
 pub const TRACE_ROOM: usize = Node::TRACE_ROOM;
@@ -42,26 +45,46 @@ fn admitted(next: &[u8; plan::PAIRS], labels: &[u8]) -> bool
     true
 }
 
-// Writes what a slot did: the task that ran, and the gain in two bytes.
-fn put_slot(out: &mut [u8], at: usize, ran: u8, gain: u16)
-    requires { ⌜ at + 3 ≤ length (now out) ⌝ }
-    ensures { λ _. ⌜ now (out .exit) ≡ overwrite (now (out .entry)) at (ran ∷ bytes 2 gain) ⌝ }
-{
-    out[at] = ran;
-    words::write_u16(out, at + 1, gain);
+// What a trace shows of a slot: the task that ran, the gain, and the task of the job that was displaced; 0 for none.
+pub struct Row {
+    pub ran: u8,
+    pub gain: u16,
+    pub cut: u8,
 }
 
-// Writes what each label's slot did.
+// The bytes of a row.
+pub const ROW_BYTES: usize = 4;
+
+// Writes a row: the task that ran, the gain in two bytes, the task that was cut.
+fn put_row(out: &mut [u8], at: usize, row: Row)
+    requires { ⌜ at + rowSize ≤ length (now out) ⌝ }
+    ensures { λ _. ⌜ now (out .exit) ≡ overwrite (now (out .entry)) at (model-trace.rowBytes (rowView row)) ⌝ }
+{
+    out[at] = row.ran;
+    words::write_u16(out, at + 1, row.gain);
+    out[at + 3] = row.cut;
+}
+
+// Writes the row of each label's slot.
 fn write_slots(rules: Rules, labels: &[u8], out: &mut [u8])
-    requires { ⌜ Ruled rules × (3 * length (now labels) ≤ length (now out)) ⌝ }
-    ensures { λ _. ⌜ ((P : model.Plan) → P .tasks ≡ tasksIn rules → P .policy ≡ rules .policy → now (out .exit) ≡ overwrite (now (out .entry)) 0 (model-trace.traceBytes (model-trace.slots P [] (now (labels .entry))))) ⌝ }
+    requires { ⌜ Ruled rules × (rowSize * length (now labels) ≤ length (now out)) ⌝ }
+    ensures { λ _. ⌜ ((P : model.Plan) → P .tasks ≡ tasksIn rules → P .policy ≡ rules .policy → now (out .exit) ≡ overwrite (now (out .entry)) 0 (model-trace.traceBytes (model-trace.slots P none [] (now (labels .entry))))) ⌝ }
 {
     let mut cells = policy::no_jobs();
+    let mut ran = policy::NO_CELL;
     let mut slot = 0;
     while slot < labels.len() {
         let done = policy::slot(rules, cells, labels[slot]);
-        put_slot(out, 3 * slot, done.ran, done.gain);
+        let task = policy::task_number(done.ran);
+        let cut = policy::displaced(&cells, ran, done.ran);
+        let row = Row {
+            ran: task,
+            gain: done.gain,
+            cut,
+        };
+        put_row(out, ROW_BYTES * slot, row);
         cells = done.cells;
+        ran = done.ran;
         slot += 1;
     }
 }
@@ -80,7 +103,7 @@ fn trace_plan(plan: Plan, labels: &[u8], out: &mut [u8]) -> Answer
         return Answer::Refused(Refusal::NotAdmitted);
     }
     write_slots(policy::rules_of(plan), labels, out);
-    Answer::Written(3 * n)
+    Answer::Written(ROW_BYTES * n)
 }
 
 // The trace of the plan's policy over the labels, for all bytes.

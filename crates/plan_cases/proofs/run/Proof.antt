@@ -19,6 +19,9 @@ gap-case-requires c κs = search needs
 combine-case-requires : tie.Need-combine-case-requires
 combine-case-requires c κs = search needs
 
+trace-call-case-requires : tie.Need-trace-call-case-requires
+trace-call-case-requires c κs = search needs
+
 returns : tie.Need-returns
 returns c = sym (ap isPlanKind (c .before .match .keys1))
 
@@ -32,9 +35,12 @@ returns-4 : tie.Need-returns-4
 returns-4 c = sym (ap isPlanKind (c .before .match .keys4))
 
 returns-5 : tie.Need-returns-5
-returns-5 c =
+returns-5 c = sym (ap isPlanKind (c .before .match .keys5))
+
+returns-6 : tie.Need-returns-6
+returns-6 c =
     simp
-    (ne-eqb _ _ (c .match .rest .0 .0 .0 .1), ne-eqb _ _ (c .match .rest .0 .0 .1), ne-eqb _ _ (c .match .rest .0 .1), ne-eqb _ _ (c .match .rest .1))
+    (ne-eqb _ _ (c .match .rest .0 .0 .0 .0 .1), ne-eqb _ _ (c .match .rest .0 .0 .0 .1), ne-eqb _ _ (c .match .rest .0 .0 .1), ne-eqb _ _ (c .match .rest .0 .1), ne-eqb _ _ (c .match .rest .1))
 
 pub run-spec : {M : Type 1} → statement M
 run-spec =
@@ -44,8 +50,10 @@ run-spec =
     trace-case-requires
     gap-case-requires
     combine-case-requires
+    trace-call-case-requires
     returns
     returns-2
     returns-3
     returns-4
-    returns-5)
+    returns-5
+    returns-6)

@@ -1,9 +1,10 @@
 -- `policy::slot` meets its contract: the steps on cells are those of the rule.
 -- Assumes nothing.
+use mathlib.Core.Path.{_≡_, sym, ap, _∙_}
 use mathlib.Core.List.{_++_}
 use Prim.Native.Nat.{_<_}
 use Rattle.model.specs.Slot.{newJobs}
-use Rattle.policy.specs.View.{Tasks, slotCells, jobsOf, tasksIn, Leaves, Ruled}
+use Rattle.policy.specs.View.{Tasks, slotCells, jobsOf, tasksIn, Leaves, Ruled, joinedCells, firstCell}
 use Rattle.policy.proofs.Cells.{worked-leaves, aged-leaves}
 use Rattle.policy.proofs.NewJobs.{joined-leaves}
 use Rattle.policy.proofs.Keys.{Chosen, first-cell}
@@ -33,6 +34,12 @@ chosen c =
     let d = c .before .before .before in
     first-cell (tasks d) (start d .args .rules .policy) (ruled d .tasks) _ (ruled d .left) (d .join .result) (entered d .cells) (c .choose .ensures)
 
+first-in : (c : tie.After-choose) → c .choose .result ≡ firstCell (start (c .before .before .before) .args .rules .policy)
+    (joinedCells (tasks (c .before .before .before)) (start (c .before .before .before) .args .cells) (start (c .before .before .before) .args .label)) (start (c .before .before .before) .args .rules .left)
+first-in c =
+    let d = c .before .before .before in
+    c .choose .ensures ∙ ap (λ cells. firstCell (start d .args .rules .policy) cells (start d .args .rules .left)) (d .join .ensures)
+
 inside : (c : tie.Else1) → c .before .choose .result < slotCells
 inside c = omega (arith, chosen (c .before) .bound, c .if1 .left)
 
@@ -53,6 +60,7 @@ returns c =
     record {
       rule = λ P same by. slot-idle P (tasks d) _ same by _ _ (d .join .result) (entered d .jobs) (ch .choose .result) (c .before .before .before .if1 .taken) (chosen ch .choice) _ (aged .jobs);
       cells = aged .cells;
+      ran = sym (c .before .before .before .if1 .taken) ∙ first-in ch;
     }
 
 array-read-gain-in : tie.Need-array-read-gain-in
@@ -67,11 +75,8 @@ run-requires c κs = (inside (c .before), chosen (c .before .before) .work (insi
 age-requires-2 : tie.Need-age-requires-2
 age-requires-2 c κs = search needs
 
-add-ran : tie.Need-add-ran
-add-ran c = search needs
-
 cast-ran : tie.Need-cast-ran
-cast-ran c = search needs
+cast-ran c = omega (arith, inside (c .before .before .before .before .before))
 
 returns-2 : tie.Need-returns-2
 returns-2 c =
@@ -84,6 +89,7 @@ returns-2 c =
     record {
       rule = λ P same by. slot-ran P (tasks d) _ same by _ _ (d .join .result) (entered d .jobs) (ch .choose .result) (inside other) (chosen ch .choice) _ _ (ran .jobs) (aged .jobs) _ (c .before .before .before .before .gain-in .ensures);
       cells = aged .cells;
+      ran = first-in ch;
     }
 
 pub slot-spec : {M : Type 1} → statement M
@@ -98,6 +104,5 @@ slot-spec =
     gain-in-requires
     run-requires
     age-requires-2
-    add-ran
     cast-ran
     returns-2)

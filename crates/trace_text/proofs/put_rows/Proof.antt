@@ -30,30 +30,21 @@ module _ (l : tie.At-loop Inv-loop μ-loop) where
 loop-holds : tie.Need-loop-holds Inv-loop μ-loop
 loop-holds c = writing-start _ _ _ _
 
-mul-read-u16 : tie.Need-mul-read-u16 Inv-loop μ-loop
-mul-read-u16 c = search needs
+mul-read-row : tie.Need-mul-read-row Inv-loop μ-loop
+mul-read-row c = search needs
 
-add-read-u16 : tie.Need-add-read-u16 Inv-loop μ-loop
-add-read-u16 c = search needs
+read-row-requires : tie.Need-read-row-requires Inv-loop μ-loop
+read-row-requires c κs = search needs
 
-read-u16-requires : tie.Need-read-u16-requires Inv-loop μ-loop
-read-u16-requires c κs = search needs
+shared-slice-read-put-line : tie.Need-shared-slice-read-put-line Inv-loop μ-loop
+shared-slice-read-put-line c = search needs
 
-shared-slice-read-put-trace-line : tie.Need-shared-slice-read-put-trace-line Inv-loop μ-loop
-shared-slice-read-put-trace-line c = search needs
-
-mul-put-trace-line : tie.Need-mul-put-trace-line Inv-loop μ-loop
-mul-put-trace-line c = search needs
-
-shared-slice-read-put-trace-line-2 : tie.Need-shared-slice-read-put-trace-line-2 Inv-loop μ-loop
-shared-slice-read-put-trace-line-2 c = search needs
-
-put-trace-line-requires : tie.Need-put-trace-line-requires Inv-loop μ-loop
-put-trace-line-requires c κs =
-    let r = c .before .before .before in
+put-line-requires : tie.Need-put-line-requires Inv-loop μ-loop
+put-line-requires c κs =
+    let r = c .before .before in
     let l = r .before .before in
     let p = entry l .pre in
-    rw (r .read-u16 .ensures)
+    rw (r .read-row .ensures)
     (line-room _ _ _ _ _ _ _ (p .0) (p .1) (p .2) (labels-bytes l) (rows-bytes l) (l .loop .inv) (r .before .loop-test .taken))
 
 add-i : tie.Need-add-i Inv-loop μ-loop
@@ -65,13 +56,13 @@ loop-less c = search needs
 loop-again : tie.Need-loop-again Inv-loop μ-loop
 loop-again c =
     let q = c .before .before in
-    let r = q .before .before .before .before in
+    let r = q .before .before .before in
     let l = r .before .before in
     let p = entry l .pre in
     rw (add-one (l .loop .i))
     (writing-next _ _ _ _ _ _ _ (p .0) (p .1) (p .2) (labels-bytes l) (rows-bytes l) (l .loop .inv) (r .before .loop-test .taken) _ _
-    (rw (r .read-u16 .ensures) at (q .put-trace-line .ensures))
-    (q .put-trace-line .kept .0))
+    (rw (r .read-row .ensures) at (q .put-line .ensures))
+    (q .put-line .kept .0))
 
 same-length : tie.Need-same-length Inv-loop μ-loop
 same-length c = c .before .loop .inv .size
@@ -89,13 +80,10 @@ put-rows-spec =
     Inv-loop
     μ-loop
     loop-holds
-    mul-read-u16
-    add-read-u16
-    read-u16-requires
-    shared-slice-read-put-trace-line
-    mul-put-trace-line
-    shared-slice-read-put-trace-line-2
-    put-trace-line-requires
+    mul-read-row
+    read-row-requires
+    shared-slice-read-put-line
+    put-line-requires
     add-i
     loop-less
     loop-again

@@ -26,7 +26,7 @@ room t = sym (t .before .before .rows-room .ensures)
 told : (t : tie.After-trace) {a : Answer} → t .trace .result ≡ a →
     Told traceBytes (trace (now (t .before .before .before .before .before .before .args .plan)) (now (t .before .before .before .before .before .before .args .labels)) (length (t .before .before .rows-room .result)))
     (t .before .before .rows-room .result) (t .trace .last .1 .1 .0) a
-told t e = told-as e (t .trace .ensures)
+told t e = told-as e (t .trace .ensures .told)
 
 rows-room-requires : tie.Need-rows-room-requires
 rows-room-requires c κs = search needs

@@ -5,13 +5,13 @@ use native.Mathlib.Omega.{arith}
 use Rattle.plan.specs.View.{planOf}
 use Rattle.plan.proofs.View.{read-as}
 use Rattle.refusals.proofs.Told.{told-by, told-refusal}
-use Rattle.tracer.proofs.Answers.{short, by-plan}
+use Rattle.tracer.proofs.Answers.{traces, short, by-plan}
 use borrow.Author.Needs.{needs}
 use Rattle.tracer.proofs.trace.Statement.{statement}
 use Rattle.tracer.proofs.trace.Tie as tie
 
 returns : tie.Need-returns
-returns c = told-refusal _ _ _ _ (short _ _ _ (c .if1 .taken))
+returns c = traces (told-refusal _ _ _ _ (short _ _ _ (c .if1 .taken)))
 
 read-requires : tie.Need-read-requires
 read-requires c κs = search needs
@@ -30,7 +30,7 @@ trace-plan-requires c κs =
 returns-2 : tie.Need-returns-2
 returns-2 c =
     let r = c .before .before .before .before in
-    told-refusal _ _ _ _ (by-plan _ _ _ _ (r .before .if1 .left) (read-as (planOf (r .read .result .plan)) (r .read .ensures .1) (c .before .outcome .given .1)))
+    traces (told-refusal _ _ _ _ (by-plan _ _ _ _ (r .before .if1 .left) (read-as (planOf (r .read .result .plan)) (r .read .ensures .1) (c .before .outcome .given .1))))
 
 same-length : tie.Need-same-length
 same-length c = search needs
@@ -40,7 +40,7 @@ returns-3 c =
     let w = c .before .before in
     let r = w .before .before .before .before .before in
     let P = planOf (r .read .result .plan) in
-    told-by (by-plan _ _ _ _ (r .before .if1 .left) (read-as P (r .read .ensures .1) (w .before .before .enum-told .given .1))) (w .trace-plan .ensures)
+    traces (told-by (by-plan _ _ _ _ (r .before .if1 .left) (read-as P (r .read .ensures .1) (w .before .before .enum-told .given .1))) (w .trace-plan .ensures))
 
 pub trace-spec : {M : Type 1} → statement M
 trace-spec =
