@@ -20,11 +20,12 @@ use Rattle.model.specs.Bytes.{number, part}
 use Rattle.model.specs.Certificate.{Certificate, Step, Parsed, consParsed, has, readPotentials, stepWidth, masksAt, readSteps, isEnd, withSteps, withPotentials, readCertificateIn, readCertificate}
 use Rattle.model.specs.Check.{potentialAt}
 use Rattle.model.proofs.Plan.{both}
+use Rattle.model.proofs.Tests.{cond-some}
 use Rattle.words.specs.Packed.{packed, unpacked}
 use Rattle.words.proofs.Numbers.{AreBytes}
 use Rattle.words.proofs.Packed.{unpacked-packed}
 use Rattle.words.proofs.Words.{drop-bytes}
-use Rattle.theory.proofs.Reread.{cond-some, cons-some, masks-fit, masks-part, steps-few}
+use Rattle.theory.proofs.Reread.{cons-some, masks-fit, masks-part, steps-few}
 use Rattle.certificate.specs.declared.Parts.{Parts}
 use Rattle.certificate.specs.declared.Form.{Form}
 use Rattle.certificate.specs.declared.Form.the-variants.{Fault, Read}

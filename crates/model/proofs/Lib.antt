@@ -5,3 +5,4 @@ pub mod Calls
 pub mod All
 pub mod Distinct
 pub mod Discovery
+pub mod Displaced

@@ -1,9 +1,10 @@
 -- Tests as facts and back.
 -- Assumes nothing.
 use mathlib.Core.Path.{_≡_, refl, sym, _∙_, ap, ap₂, subst}
-use mathlib.Core.Bool.{Bool, true, false, _&&_, _||_, and-false, false≢true}
+use mathlib.Core.Bool.{Bool, true, false, cond, _&&_, _||_, and-false, false≢true}
 use mathlib.Core.Logic.{_↔_, _⊎_, inl, inr, ⊎-elim}
 use mathlib.Core.List.{List, [], _∷_, List·Memᴰ, List·Memᴰ·head, List·Memᴰ·tail, List·Memᴰ·not-nil, List·Memᴰ·cases-cons}
+use mathlib.Core.Option.{Option, none, some, Option·none-ne-some}
 use Prim.Native.Nat.{ℕ, zero, suc, _<_, _≤_}
 use native.Mathlib.Omega.{arith}
 use lib.Dec.{T, eqb}
@@ -77,6 +78,11 @@ or-right false b h = h
 -- two tests that are true are true together
 pub true-and : (a b : Bool) → a ≡ true → b ≡ true → (a && b) ≡ true
 true-and a b p q = ap₂ (λ s t. s && t) p q
+
+-- a test that must be true for a value
+pub cond-some {ℓ} : {A : Type ℓ} (b : Bool) (o : Option A) {c : A} → cond b o none ≡ some c → (b ≡ true) × (o ≡ some c)
+cond-some true o h = (refl, h)
+cond-some false o {c} h = absurd (Option·none-ne-some c h)
 
 -- a test of all elements is the test of each
 pub all-each {ℓ} : {A : Type ℓ} (f : A → Bool) (l : List A) → (all f l ≡ true) ↔ ((a : A) → List·Memᴰ a l → f a ≡ true)

@@ -16,9 +16,9 @@ use Rattle.model.specs.Plan.{Plan}
 use Rattle.model.specs.Slot as model-slot
 use Rattle.model.specs.Slot.{JobId, idOf, hasId, unfinished, newJobs, key, first, ready, chosenIn, slot, displaced, displacedIn}
 use Rattle.model.specs.Trace.{taskOr0, rowOf}
+use Rattle.model.proofs.Displaced.{has-id, found-is}
 use Rattle.model.proofs.Plan.{both}
 use Rattle.model.proofs.Tests.{same-decided, same-number, any-some}
-use Rattle.theory.proofs.Interrupted.{has-id, found-is}
 use Rattle.policy.specs.declared.Rules.{Rules}
 use Rattle.policy.specs.declared.Done.{Done}
 use Rattle.policy.specs.View.{Tasks, cellCount, slotCells, taskIn, leftIn, jobIn, jobsOf, TasksInRange, Cells, joinedCells, taskNumber, displacedTask, tasksIn, Ruled, ranIn, Slotted}

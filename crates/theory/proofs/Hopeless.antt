@@ -107,11 +107,12 @@ module _ (k : Job → List ℕ) {c : Job} where
 
 -- ---- one slot
 
--- it lowers the slots left of a job by 1 and its work by at most 1
+-- whatever it chooses, it changes the id of every job alike
 pub after-id : (c : Option Job) (j : Job) → idOf (afterChoice c j) ≡ idOf (tick j)
 after-id none j = refl
 after-id (some chosen) j = refl
 
+-- it lowers the slots left of a job by 1 and its work by at most 1
 after-left : (c : Option Job) (j : Job) → afterChoice c j .left ≡ j .left - 1
 after-left c j = ap (λ (i : JobId). i .left) (after-id c j)
 

@@ -1,95 +1,34 @@
 -- Who was interrupted: a trace tells of every slot the job that it displaces, and no other.
 -- Assumes nothing.
 use mathlib.Core.Path.{_≡_, refl, sym, _∙_, ap, ap₂, subst}
-use mathlib.Core.Bool.{Bool, true, false, not, cond, _&&_, or-false}
+use mathlib.Core.Bool.{Bool, true, false, cond}
 use mathlib.Core.List.{List, [], _∷_, List·Memᴰ, List·Memᴰ·not-nil, List·Memᴰ·cases-cons, List·Memᴰ·append-cases}
-use mathlib.Core.Logic.{_↔_, _⊎_, ⊎-elim}
-use mathlib.Core.Option.{Option, none, some, Option·none-ne-some, Option·some-injective}
+use mathlib.Core.Logic.{_⊎_, ⊎-elim}
+use mathlib.Core.Option.{Option, none, some}
 use Prim.Native.Nat.{ℕ, zero, suc, _+_, _-_, _/_, _%_, _<_, _≤_}
 use native.Mathlib.Nat.{le-of-suc-le-suc, not-suc-le-zero}
 use native.Mathlib.Omega.{arith}
-use borrow.Author.Tests.{ltb-true, ltb-false, lt-ltb, eqb-true, eq-eqb, not-true}
+use borrow.Author.Tests.{ltb-false}
 use lib.Dec.{ltb, eqb}
 use lib.ListN.{length, getD, take}
 use Rattle.model.specs.Calls.{refuses, writes}
 use Rattle.model.specs.Hopeless.{afterChoice}
-use Rattle.model.specs.Interrupted.{Displaced, Interrupted, InterruptedAfter, TellsCuts}
+use Rattle.model.specs.Interrupted.{Interrupted, InterruptedAfter, TellsCuts}
 use Rattle.model.specs.Limits.{maxLabels, traceRoom}
-use Rattle.model.specs.Lists.{consIf, any, listOf}
+use Rattle.model.specs.Lists.{consIf}
 use Rattle.model.specs.Plan.{Task, Plan, sound, readPlan}
 use Rattle.model.specs.Refusals.{tooManyLabels, notAdmitted}
 use Rattle.model.specs.Schedule.{admits}
-use Rattle.model.specs.Slot.{Job, JobId, noTask, taskOf, newJobs, idOf, hasId, tick, unfinished, ready, keyOf, chosenIn, slot, jobsAfter, displaced, displacedIn}
+use Rattle.model.specs.Slot.{Job, JobId, noTask, taskOf, newJobs, idOf, hasId, tick, ready, keyOf, chosenIn, slot, jobsAfter, displacedIn}
 use Rattle.model.specs.Trace.{Row, taskOr0, rowOf, slots, traceRun, trace}
-use Rattle.model.proofs.Plan.{both}
-use Rattle.model.proofs.Tests.{is-true, is-false, holds, fails, true-and, any-some}
+use Rattle.model.proofs.Displaced.{has-id, displaced-is}
+use Rattle.model.proofs.Tests.{is-true, is-false, holds, fails}
 use Rattle.theory.proofs.Hopeless.{first-among, after-id, of-slot, slot-ran, of-ran, is-ready}
-use Rattle.theory.proofs.Reread.{cond-some}
 use Rattle.theory.proofs.Writings.{taken, passed, over}
 
 -- what a row says of who was cut
 abbrev pub cutAt : List Row → ℕ → ℕ
 cutAt rs t = getD rs t (record { ran = 0; gain = 0; cut = 0 }) .cut
-
--- ---- the job that is displaced
-
--- a job has its own id and no other
-pub has-id : (i : JobId) (j : Job) → (hasId i j ≡ true) ↔ (i ≡ idOf j)
-has-id i j = (
-  λ h.
-      let two = both (eqb (i .task) (j .task)) (eqb (i .left) (j .left)) h in
-      λ k. record { task = eqb-true (i .task) (j .task) (two .0) k; left = eqb-true (i .left) (j .left) (two .1) k },
-  λ e.
-      true-and (eqb (i .task) (j .task)) (eqb (i .left) (j .left)) (eq-eqb (i .task) (j .task) (ap (λ (a : JobId). a .task) e))
-      (eq-eqb (i .left) (j .left) (ap (λ (a : JobId). a .left) e)),
-)
-
--- the test of the jobs that the slot finds
-pub found-is : (i : JobId) (js : List Job) → (any (λ j. hasId i j && unfinished j) js ≡ true) ↔ ((j : Job) × List·Memᴰ j js × (hasId i j ≡ true) × (0 < j .work))
-found-is i js =
-    let some-found = any-some (λ j. hasId i j && unfinished j) js in (
-      λ h.
-          let r = some-found .0 h in
-          let two = both (hasId i (r .0)) (ltb 0 (r .0 .work)) (r .2) in
-          (r .0, r .1, two .0, ltb-true 0 (r .0 .work) (two .1)),
-      λ r. some-found .1 (r .0, r .1, true-and (hasId i (r .0)) (ltb 0 (r .0 .work)) (r .2) (lt-ltb 0 (r .0 .work) (r .3))),
-    )
-
--- and that of the job that is chosen
-other-is : (i : JobId) (chosen : Option Job) → (any (hasId i) (listOf chosen) ≡ false) ↔ ((c : Job) → chosen ≡ some c → hasId i c ≡ false)
-other-is i none = (λ h c e. absurd (Option·none-ne-some c e), λ h. refl)
-other-is i (some x) = (
-  λ h c e. ap (hasId i) (sym (Option·some-injective x c e)) ∙ sym (or-false (hasId i x)) ∙ h,
-  λ h. or-false (hasId i x) ∙ h x refl,
-)
-
--- the definition gives a job exactly where it is displaced
-pub displaced-is : (ran : Option JobId) (js : List Job) (chosen : Option Job) (i : JobId) → (displaced ran js chosen ≡ some i) ↔ Displaced ran js chosen i
-displaced-is none js chosen i = (λ h. absurd (Option·none-ne-some i h), λ d. absurd (Option·none-ne-some i (d .before)))
-displaced-is (some r) js chosen i = (to, from)
-  where
-    present : Bool
-    present = any (λ j. hasId r j && unfinished j) js
-
-    runsOn : Bool
-    runsOn = any (hasId r) (listOf chosen)
-
-    to : cond (present && not runsOn) (some r) none ≡ some i → Displaced (some r) js chosen i
-    to h =
-        let given = cond-some (present && not runsOn) (some r) h in
-        let two = both present (not runsOn) (given .0) in
-        subst (Displaced (some r) js chosen) (Option·some-injective r i (given .1)) (record {
-          before = refl;
-          found = found-is r js .0 (two .0);
-          other = other-is r chosen .0 (not-true runsOn (two .1));
-        })
-
-    from : Displaced (some r) js chosen i → cond (present && not runsOn) (some r) none ≡ some i
-    from d =
-        let e = subst (Displaced (some r) js chosen) (sym (Option·some-injective r i (d .before))) d in
-        ap (λ (b : Bool). cond b (some r) none)
-        (true-and present (not runsOn) (found-is r js .1 (e .found)) (ap not (other-is r chosen .1 (e .other))))
-        ∙ d .before
 
 -- ---- the jobs of a run
 

@@ -26,8 +26,8 @@ use Rattle.model.specs.Trace.{slots, traceRun}
 use lib.Seq.{getD-drop}
 use Rattle.model.proofs.Lists.{map-same, mem-of-upFrom}
 use Rattle.model.proofs.Plan.{both, width-pos, readFrom-at, fault-none, Passes}
-use Rattle.model.proofs.Tests.{one-le}
-use Rattle.theory.proofs.Reread.{cond-some, cons-some}
+use Rattle.model.proofs.Tests.{one-le, cond-some}
+use Rattle.theory.proofs.Reread.{cons-some}
 use Rattle.theory.proofs.Sound.{ArcsRise, Before, Held, held-nothing, held-after, known-le}
 
 -- the labels of a state, and the pairs of a state and a label

@@ -20,6 +20,7 @@ use Rattle.model.specs.Bytes.{number, bytes, signed, part}
 use Rattle.model.specs.Certificate.{Step, Certificate, stepBytes, cycleBytes, certificateBytesIn, Parsed, consParsed, has, readPotentials, stepWidth, masksAt, readSteps, isEnd, withSteps, withPotentials, readCertificateIn}
 use Rattle.model.proofs.Lists.{flatMap-length, getD-table}
 use Rattle.model.proofs.Plan.{both}
+use Rattle.model.proofs.Tests.{cond-some}
 use Rattle.words.proofs.Complement.{complement-signed}
 use Rattle.words.proofs.Fields.{field-lt, field-written, fields-written}
 use Rattle.words.proofs.Numbers.{AreBytes, bytes-length}
@@ -29,11 +30,6 @@ use Rattle.theory.proofs.Form.{MasksFit, potentialBytes, bytes-grouped}
 -- ---- parts of a reading
 
 module _ {A : Type 0} where
-  -- a test that must be true for a value
-  pub cond-some : (b : Bool) (o : Option A) {c : A} → cond b o none ≡ some c → (b ≡ true) × (o ≡ some c)
-  cond-some true o h = (refl, h)
-  cond-some false o {c} h = absurd (Option·none-ne-some c h)
-
   -- one element more, and what is read after it
   pub cons-some : (a : A) (o : Option (Parsed (List A))) (r : Parsed (List A)) → consParsed a o ≡ some r →
       (t : Parsed (List A)) × (o ≡ some t) × (record { value = a ∷ t .value; rest = t .rest } ≡ r)

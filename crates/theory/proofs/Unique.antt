@@ -23,12 +23,12 @@ use Rattle.model.specs.Certificate.{Certificate, Step, Parsed, certificateBytes
 use Rattle.model.specs.Check.{gcd, share, verdict, check, potentialAt}
 use Rattle.model.specs.Passes.{PassesTo, beginning}
 use Rattle.model.specs.Solve.{Smallest, Solved}
+use Rattle.model.proofs.Tests.{cond-some}
 use Rattle.theory.proofs.Divisors.{gcd-divides, gcd-greatest}
 use Rattle.theory.proofs.Accepted.{Accepted, accepted-iff, check-iff}
 use Rattle.theory.proofs.Claim.{sound-claim}
 use Rattle.theory.proofs.Gains.{fraction-fits}
 use Rattle.theory.proofs.Distances.{smallest-unique}
-use Rattle.theory.proofs.Reread.{cond-some}
 use Rattle.theory.proofs.Passes.{passes-once}
 
 -- ---- lowest terms
