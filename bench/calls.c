@@ -1,6 +1,6 @@
-/* Calls the library as a C program does: solves case B, checks the certificate, traces labels 2, 1, 0 and 3, 0, gives task 1 a gap of
-   two slots, combines case B with that plan, sends it back to the first edition and forth again, widens and checks a certificate of the first
-   edition, and sees that refusals leave memory as it was. */
+/* Calls the library as a C program does: solves case B, checks the certificate, traces labels 2, 1, 0 and 3, 0, and the first with task 2
+   locked, gives task 1 a gap of two slots, combines case B with that plan, sends it back to the first edition and forth again, widens and
+   checks a certificate of the first edition, and sees that refusals leave memory as it was. */
 #include <stdio.h>
 #include <string.h>
 
@@ -39,6 +39,8 @@ int main(void) {
     static const uint8_t traced[] = {2, 0, 0, 0, 1, 0, 1, 2, 0, 0, 0, 0};
     static const uint8_t in_vain[] = {1, 0, 1, 0, 2, 0, 0, 0};
     static const uint8_t gap[] = {1, 1, 1, 0, 1, 1, 2, 2, 0, 3, 2, 1, 3, 2, 4, 0, 0, 0, 4, 0, 1, 1, 4, 0, 2, 0, 4, 0, 3, 1, 4, 1, 0, 0, 4, 1, 2, 0, 5};
+    static const uint8_t held[] = {2, 0, 0, 0, 2, 0, 3, 0, 0, 0, 0, 0};
+    static const uint8_t locked[] = {1, 1, 1, 0, 1, 1, 2, 2, 0, 3, 9, 2, 2, 1, 3, 1, 4, 0, 0, 0, 4, 0, 1, 0, 4, 0, 2, 0, 4, 0, 3, 0, 5};
     static const uint8_t old[] = {1, 1, 1, 1, 1, 2, 2, 3, 2, 1, 3, 1, 4, 0, 0, 0, 4, 0, 1, 0, 4, 0, 2, 0, 4, 0, 3, 0, 5};
     static const uint8_t wide[] = {1, 1, 9, 0, 1, 2, 1, 3, 1, 5};
     static const uint8_t filed[] = {17, 0, 0, 0, 0, 0, 0, 0, 1, 0, 5, 18, 0, 0, 0, 0, 0, 0, 0, 0, 18, 0, 0, 0, 0, 0, 0, 0, 0, 18, 0, 0, 0, 0, 0, 0,
@@ -76,24 +78,31 @@ int main(void) {
     n = jovnetal_trace(plan, sizeof plan, busy, sizeof busy, slots, sizeof slots);
     expect(n == sizeof in_vain && memcmp(slots, in_vain, sizeof in_vain) == 0, "a job that can't finish runs and gains nothing");
 
+    n = jovnetal_trace(locked, sizeof locked, labels, sizeof labels, slots, sizeof slots);
+    expect(n == sizeof held && memcmp(slots, held, sizeof held) == 0, "with task 2 locked it runs to its end, gains 3 and is not cut");
+
     memset(apart, 7, sizeof apart);
     expect(jovnetal_gap(plan, sizeof plan, 3, 2, apart, sizeof apart) == JOVNETAL_REFUSED + 14, "a gap for a third task is refused with 14");
     expect(all(apart, sizeof apart, 7), "and leaves the output as it was");
     n = jovnetal_gap(plan, sizeof plan, 1, 2, apart, sizeof apart);
     expect(n == sizeof gap && memcmp(apart, gap, sizeof gap) == 0, "a gap of two slots has two states");
     expect(all(apart + n, sizeof apart - n, 7), "bytes past the plan are as they were");
+    n = jovnetal_gap(locked, sizeof locked, 1, 2, apart, sizeof apart);
+    expect(n == sizeof gap + 2 && memcmp(apart, locked, 12) == 0 && memcmp(apart + 12, gap + 10, sizeof gap - 10) == 0, "and keeps the lock");
 
     memset(both, 7, sizeof both);
     expect(jovnetal_combine(plan, sizeof plan, other, sizeof other, both, sizeof both) == JOVNETAL_REFUSED + 4, "different tasks are refused with 4");
-    expect(all(both, sizeof both, 7), "and leave the output as it was");
+    expect(jovnetal_combine(plan, sizeof plan, locked, sizeof locked, both, sizeof both) == JOVNETAL_REFUSED + 4, "and so are different locks");
+    expect(all(both, sizeof both, 7), "and both leave the output as it was");
     n = jovnetal_combine(plan, sizeof plan, gap, sizeof gap, both, sizeof both);
     expect(n == sizeof gap && memcmp(both, gap, sizeof gap) == 0, "a plan that admits all, with one that keeps a gap, keeps the gap");
     expect(all(both + n, sizeof both - n, 7), "bytes past the combined plan are as they were");
 
     memset(first, 7, sizeof first);
     expect(jovnetal_back(wide, sizeof wide, first, sizeof first) == JOVNETAL_REFUSED + 16, "a window of nine slots is refused with 16");
+    expect(jovnetal_back(locked, sizeof locked, first, sizeof first) == JOVNETAL_REFUSED + 16, "a lock is refused with 16");
     expect(jovnetal_back(plan, sizeof plan, first, sizeof first - 1) == JOVNETAL_REFUSED + 11, "short output is refused with 11");
-    expect(all(first, sizeof first, 7), "and both leave the output as it was");
+    expect(all(first, sizeof first, 7), "and all three leave the output as it was");
     n = jovnetal_back(plan, sizeof plan, first, sizeof first);
     expect(n == sizeof old && memcmp(first, old, sizeof old) == 0, "case B goes back to the first edition");
     expect(all(first + n, sizeof first - n, 7), "bytes past the plan sent back are as they were");

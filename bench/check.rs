@@ -156,8 +156,9 @@ fn proved(plan: &[u8], certificate: &[u8], work: &mut [u8]) -> Answer {
 
 fn main() {
     let large = [1, 1, 8, 0, 5, 1, 2, 8, 0, 7, 1, 2, 8, 0, 11, 1, 2, 8, 0, 13, 2, 4, 3, 1, 4, 0, 15, 0, 5];
+    let locked = [&large[..20], &[9, 2, 9, 3, 9, 4], &large[20..]].concat();
     let mut work = vec![0; 65536];
-    for (plan, size) in [(&large[..], (897, 583_571)), (&LARGEST[..], (1024, 1_939_509))] {
+    for (plan, size) in [(&large[..], (897, 583_571)), (&locked[..], (856, 52_557)), (&LARGEST[..], (1024, 1_939_509))] {
         let sound = read_plan(plan);
         let mut count = 0;
         for node in &discover::<false>(&sound).unwrap().nodes {

@@ -106,7 +106,7 @@ fn timed<T>(best: &mut f64, run: impl FnOnce() -> T) -> T {
 fn main() {
     for (a, b) in [(16, 16), (16, 1), (5, 3), (1, 1)] {
         let (first, second) = (ring(1, a), ring(2, b));
-        let mut out = vec![0u8; 1049];
+        let mut out = vec![0u8; 1057];
         let (mut ours, mut theirs) = (f64::MAX, f64::MAX);
         for _ in 0..2000 {
             let (x, y) = (black_box(&first), black_box(&second));

@@ -107,7 +107,7 @@ fn main() {
         let old = ring(states);
         let new = converted(FIRST, LONG, &old).unwrap();
         for (name, call, from, to, plan) in [("forth", jovnetal_forth as Call, FIRST, LONG, &old), ("back", jovnetal_back as Call, LONG, FIRST, &new)] {
-            let mut out = vec![0u8; 1049];
+            let mut out = vec![0u8; 1057];
             let (mut ours, mut theirs) = (f64::MAX, f64::MAX);
             for _ in 0..2000 {
                 let x = black_box(plan);

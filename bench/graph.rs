@@ -22,11 +22,17 @@ pub fn read_plan(bytes: &[u8]) -> Plan {
                 let (work, window, value) = (b[1], b[2], u16::from_be_bytes([b[3], b[4]]));
                 let fits = |m: &u16| m.count_ones() == work as u32 && *m < 1 << window;
                 plan.masks.push((1..1024).filter(fits).collect());
-                plan.tasks.push(Task { work, window, value });
+                plan.tasks.push(Task { work, window, value, locked: false });
                 5
             }
             2 => {
                 plan.policy = b[1];
+                2
+            }
+            9 => {
+                let i = b[1] as usize - 1;
+                plan.tasks[i].locked = true;
+                plan.masks[i].retain(|m| ((m >> m.trailing_zeros()) + 1).is_power_of_two());
                 2
             }
             3 => 2,

@@ -19,6 +19,7 @@ pub struct Task {
     pub work: u8,
     pub window: u8,
     pub value: u16,
+    pub locked: bool,
 }
 
 // One slot by the rules, with the jobs in release order: the place of the job that ran and the job as the slot leaves it, and the gain.
@@ -28,11 +29,17 @@ pub fn slot(tasks: &[Task], policy: u8, jobs: &mut Vec<Job>, label: u8) -> (Opti
             jobs.push(Job { task: i + 1, work: t.work, left: t.window });
         }
     }
-    let key = |j: &Job| match policy {
-        1 => (j.left as usize, j.task, 0),
-        2 => (j.work as usize, j.task, j.left as usize),
-        3 => (10 + j.left as usize - tasks[j.task - 1].window as usize, j.task, 0),
-        _ => (j.task, j.left as usize, 0),
+    // held or not, then the policy's key, as one number
+    let key = |j: &Job| {
+        let t = &tasks[j.task - 1];
+        let waits = !(t.locked && j.work < t.work);
+        let [a, b, c] = match policy {
+            1 => [j.left, j.task as u8, 0],
+            2 => [j.work, j.task as u8, j.left],
+            3 => [10 + j.left - t.window, j.task as u8, 0],
+            _ => [j.task as u8, j.left, 0],
+        };
+        u32::from_be_bytes([waits as u8, a, b, c])
     };
     let first = (0..jobs.len()).min_by_key(|&k| key(&jobs[k]));
     let mut gain = 0;

@@ -33,30 +33,41 @@ fn timed(best: &mut f64, slots: usize, run: impl FnOnce()) {
 }
 
 fn main() {
-    let tasks = [(2, 8, 5), (3, 8, 7), (1, 8, 11), (4, 8, 13)].map(|(work, window, value)| Task { work, window, value });
+    for locked in [false, true] {
+        for policy in 1..=4u8 {
+            measure(locked, policy);
+        }
+    }
+}
+
+// Four tasks, of which the second and the last may be locked, all released in every slot.
+fn measure(locked: bool, policy: u8) {
+    let tasks = [(2, 8, 5), (3, 8, 7), (1, 8, 11), (4, 8, 13)].map(|(work, window, value)| Task { work, window, value, locked: locked && work > 2 });
     let labels = [15u8; 4096];
     let rounds = 500;
-    for policy in 1..=4u8 {
-        let mut plan = Vec::new();
-        for t in &tasks {
-            plan.extend([1, t.work, t.window]);
-            plan.extend(t.value.to_be_bytes());
-        }
-        plan.extend([2, policy, 3, 1, 4, 0, 15, 0, 5]);
-        let mut a = vec![0u8; 16384];
-        let mut b = vec![0u8; 16384];
-        let (mut ours, mut theirs) = (f64::MAX, f64::MAX);
-        let (mut proved, mut written) = (0, 0);
-        for _ in 0..rounds {
-            timed(&mut ours, labels.len(), || {
-                proved = unsafe { jovnetal_trace(plan.as_ptr(), plan.len(), labels.as_ptr(), labels.len(), a.as_mut_ptr(), a.len()) };
-            });
-            timed(&mut theirs, labels.len(), || {
-                written = plain_trace(std::hint::black_box(&tasks), policy, std::hint::black_box(&labels), &mut b);
-            });
-        }
-        assert_eq!(proved as usize, written);
-        assert_eq!(a, b);
-        println!("policy {policy}: proved {ours:.1} ns a slot, plain Rust {theirs:.1} ns, ratio {:.2}", ours / theirs);
+    let mut plan = Vec::new();
+    for t in &tasks {
+        plan.extend([1, t.work, t.window]);
+        plan.extend(t.value.to_be_bytes());
     }
+    for (i, _) in tasks.iter().enumerate().filter(|(_, t)| t.locked) {
+        plan.extend([9, i as u8 + 1]);
+    }
+    plan.extend([2, policy, 3, 1, 4, 0, 15, 0, 5]);
+    let mut a = vec![0u8; 16384];
+    let mut b = vec![0u8; 16384];
+    let (mut ours, mut theirs) = (f64::MAX, f64::MAX);
+    let (mut proved, mut written) = (0, 0);
+    for _ in 0..rounds {
+        timed(&mut ours, labels.len(), || {
+            proved = unsafe { jovnetal_trace(plan.as_ptr(), plan.len(), labels.as_ptr(), labels.len(), a.as_mut_ptr(), a.len()) };
+        });
+        timed(&mut theirs, labels.len(), || {
+            written = plain_trace(std::hint::black_box(&tasks), policy, std::hint::black_box(&labels), &mut b);
+        });
+    }
+    assert_eq!(proved as usize, written);
+    assert_eq!(a, b);
+    let with = if locked { ", two tasks locked" } else { "" };
+    println!("policy {policy}{with}: proved {ours:.1} ns a slot, plain Rust {theirs:.1} ns, ratio {:.2}", ours / theirs);
 }

@@ -19,7 +19,7 @@ extern "C" {
 #define JOVNETAL_WORK_ROOM 65536
 #define JOVNETAL_CERTIFICATE_ROOM 19471
 #define JOVNETAL_TRACE_ROOM 16384
-#define JOVNETAL_PLAN_ROOM 1049
+#define JOVNETAL_PLAN_ROOM 1057
 #define JOVNETAL_FIRST_PLAN_ROOM 1045
 
 /* A call that writes bytes answers their number, or the number of the refusal and this. */
@@ -41,21 +41,22 @@ uint64_t jovnetal_check(const uint8_t *plan, size_t plan_length, const uint8_t *
 
 /* Traces a plan's policy over labels, one byte each: for each label four bytes are written to out, the task that ran, the gain of the slot in
    two bytes, most significant first, and the task of the job that was displaced: the one that ran in the slot before, if it is unfinished,
-   still there and does not run now. A task is 0 for none.
+   still there and does not run now. A task is 0 for none. No locked task is displaced.
    Answers the number of bytes written, or JOVNETAL_REFUSED + n: 11, 1 to 4, 12, 13.
    Memory: bytes of out past the last one written keep what they had; after a refusal all do. */
 uint64_t jovnetal_trace(const uint8_t *plan, size_t plan_length, const uint8_t *labels, size_t label_count,
                         uint8_t *out, size_t out_length);
 
-/* Writes a plan's tasks and policy to out with an automaton that admits exactly the runs in which any two releases of the task are at
+/* Writes a plan's tasks, with their locks, and policy to out with an automaton that admits exactly the runs in which any two releases of the task are at
    least so many slots apart; other tasks are free. Tasks are numbered from 1.
    Answers the number of bytes written, or JOVNETAL_REFUSED + n: 11, 1 to 4, 14.
    Memory: bytes of out past the last one written keep what they had; after a refusal all do. */
 uint64_t jovnetal_gap(const uint8_t *plan, size_t plan_length, uint64_t task, uint64_t slots, uint8_t *out, size_t out_length);
 
-/* Writes the first plan's tasks and policy to out with an automaton that admits exactly the runs that both plans admit. first and second
-   may be the same bytes.
-   Answers the number of bytes written, or JOVNETAL_REFUSED + n: 11, the first plan's 1 to 4, the second's 1 to 4, 4 for different tasks, 15.
+/* Writes the first plan's tasks, with their locks, and policy to out with an automaton that admits exactly the runs that both plans admit.
+   first and second may be the same bytes.
+   Answers the number of bytes written, or JOVNETAL_REFUSED + n: 11, the first plan's 1 to 4, the second's 1 to 4, 4 for different tasks or
+   locks, 15.
    Memory: bytes of out past the last one written keep what they had; after a refusal all do. */
 uint64_t jovnetal_combine(const uint8_t *first, size_t first_length, const uint8_t *second, size_t second_length,
                           uint8_t *out, size_t out_length);
@@ -66,8 +67,8 @@ uint64_t jovnetal_combine(const uint8_t *first, size_t first_length, const uint8
 uint64_t jovnetal_forth(const uint8_t *plan, size_t plan_length, uint8_t *out, size_t out_length);
 
 /* Writes a plan of the long-read edition to out in the first. Sent forth and back, or back and forth, a plan is the same bytes.
-   Answers the number of bytes written, or JOVNETAL_REFUSED + n: 11 (below JOVNETAL_FIRST_PLAN_ROOM), 1 to 4, 16 for a window above 8 or a
-   value above 255.
+   Answers the number of bytes written, or JOVNETAL_REFUSED + n: 11 (below JOVNETAL_FIRST_PLAN_ROOM), 1 to 4, 16 for a window above 8, a
+   value above 255 or a lock.
    Memory: bytes of out past the last one written keep what they had; after a refusal all do. */
 uint64_t jovnetal_back(const uint8_t *plan, size_t plan_length, uint8_t *out, size_t out_length);
 

@@ -2,10 +2,10 @@
 -- Assumes nothing.
 use mathlib.Core.Path.{_≡_, refl, sym, ap, _∙_}
 use mathlib.Core.Bool.{Bool, true, false, cond, _&&_}
-use mathlib.Core.List.{List, [], _∷_, _++_, map, map-append, append-assoc, append-nil}
+use mathlib.Core.List.{List, [], _∷_, _++_, map, append-assoc, append-nil}
 use mathlib.Core.Option.{Option, none, some}
 use Prim.Native.Nat.{ℕ, zero, suc, _+_, _-_, _*_, _≤_, _<_}
-use native.Mathlib.Nat.{zero-add, mul-suc}
+use native.Mathlib.Nat.{mul-suc}
 use native.Mathlib.Numerals.{add-one}
 use native.Mathlib.Omega.{arith}
 use borrow.Author.Tests.{leb-true, le-leb, lt-leb}
@@ -16,7 +16,7 @@ use Rattle.model.specs.Lists.{upFrom}
 use Rattle.model.specs.Bytes.{number, signed, part}
 use Rattle.model.specs.Edition.{Edition}
 use Rattle.model.specs.Certificate.{Step, Parsed, consParsed, has, readPotentials, stepWidth, masksAt, readSteps}
-use Rattle.model.proofs.Lists.{length-upFrom, getD-table, upFrom-append}
+use Rattle.model.proofs.Lists.{length-upFrom, getD-table, table-more}
 use Rattle.model.proofs.Plan.{both}
 use Rattle.certificate.specs.View.{potentialCommand, stepCommand, potentialWidth, potentialSize, potentialIn, stepIn, items}
 
@@ -35,8 +35,7 @@ module _ {A : Type 0} (item : ℕ → A) (from size : ℕ) where
   unfolding items
   items-more n =
       ap (λ (k : ℕ). map (λ i. item (from + size * i)) (upFrom 0 k)) (sym (add-one n))
-      ∙ ap (map (λ i. item (from + size * i))) (upFrom-append 0 n 1 ∙ ap (λ (k : ℕ). upFrom 0 n ++ (k ∷ [])) (zero-add n))
-      ∙ map-append (λ i. item (from + size * i)) (upFrom 0 n) (n ∷ [])
+      ∙ table-more (λ i. item (from + size * i)) n
 
 module _ {A : Type 0} where
   -- items, and then a reading

@@ -40,7 +40,10 @@ fn same_task(a: Task, b: Task) -> bool
     if a.window != b.window {
         return false;
     }
-    a.value == b.value
+    if a.value != b.value {
+        return false;
+    }
+    a.locked == b.locked
 }
 
 // Whether two plans have the same tasks.

@@ -25,7 +25,13 @@ fn says(edition: Edition, task: Task) -> bool
     if edition.window < task.window {
         return false;
     }
-    task.value <= edition.value
+    if edition.value < task.value {
+        return false;
+    }
+    if !task.locked {
+        return true;
+    }
+    edition.locks
 }
 
 // Whether an edition can say all tasks of a plan.

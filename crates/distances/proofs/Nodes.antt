@@ -12,16 +12,12 @@ use Rattle.model.specs.Lists.{upFrom}
 use Rattle.model.specs.Passes.{relaxNode, pass}
 use Rattle.model.specs.Plan.{Plan}
 use Rattle.model.proofs.Lists.{upFrom-append}
+use Rattle.model.proofs.Plan.{or-neither}
 use Rattle.distances.specs.declared.Prices.{Prices}
 use Rattle.links.specs.Links.{stateIn}
 use Rattle.distances.specs.declared.Tried.{Tried}
 use Rattle.distances.specs.Distances.{knownDistances, SearchIn, Advance, RelaxesNode, Passes}
 use Rattle.distances.proofs.Advances.{advance-none, advance-then}
-
--- neither has moved
-none-moved : (a b : Bool) → (a || b) ≡ false → (a ≡ false) × (b ≡ false)
-none-moved true b e = absurd (true≢false e)
-none-moved false b e = (refl, e)
 
 -- what is not true is false
 not-waiting : (b : Bool) → (b ≡ true → ⊥) → b ≡ false
@@ -48,7 +44,7 @@ module _ {P : Plan} {prices : Prices} where
         ∙ foldl-append (relaxNode P (prices .p) (prices .q)) (knownDistances prices m) (upFrom 0 u) (upFrom (0 + u) 1)
         ∙ ap (λ ds. relaxNode P (prices .p) (prices .q) ds (0 + u)) (b .taken)
         ∙ ap (relaxNode P (prices .p) (prices .q) (knownDistances prices m′)) (zero-add u) ∙ r .taken none;
-    tried = λ e x h. let still = none-moved moved (t .moved) e in by (still .0) (still .1) x h (ℕ-discrete x u);
+    tried = λ e x h. let still = or-neither moved (t .moved) e in by (still .0) (still .1) x h (ℕ-discrete x u);
   }
     where
       by : moved ≡ false → t .moved ≡ false → (x : ℕ) → x < u + 1 → Dec (x ≡ u) → stateIn m″ .waiting x ≡ false

@@ -1,14 +1,17 @@
 -- How the outcomes that a label offers are noted, task by task and mask by mask.
 -- Assumes nothing.
 use mathlib.Core.Path.{_≡_, refl, sym, _∙_, ap, ap₂, subst}
+use mathlib.Core.Bool.{Bool, true, false, cond}
 use mathlib.Core.Logic.{inl, inr}
 use mathlib.Core.List.{List, [], _∷_, _++_, foldl, foldl-append}
 use Prim.Native.Nat.{ℕ, suc, _+_, _-_, _*_, _/_, _^_, _<_, _≤_}
-use native.Mathlib.Nat.{pow-suc, pow-le-pow-right}
+use native.Mathlib.Nat.{pow-suc, pow-le-pow-right, mul-assoc, mul-le-mul-left}
 use native.Mathlib.Numerals.{add-one}
 use native.Mathlib.Omega.{arith}
 use lib.Bits.{bitOr, or-lt}
-use lib.Dec.{lit<}
+use lib.Dec.{eqb, lit<}
+use lib.Pow.{pow-mono}
+use borrow.Author.Tests.{eqb-false}
 use lib.ListN.{length, getD, drop}
 use lib.Seq.{drop-cons, getD-take, getD-drop}
 use Rattle.model.specs.Bytes.{part, Only}
@@ -16,10 +19,10 @@ use Rattle.model.specs.Limits.{maxTasks, maxWindow}
 use Rattle.model.specs.Masks.{maskCount}
 use Rattle.words.specs.Packed.{fieldBase}
 use Rattle.words.proofs.Memory.{part-ext}
-use Rattle.masks.specs.Clear.{clearIn, ListsClear}
-use Rattle.masks.proofs.Clear.{clear-low}
+use Rattle.masks.specs.Clear.{clearIn, clearRuns, Lists}
+use Rattle.masks.proofs.Clear.{clear-low, runs-low}
 use Rattle.graph.specs.Outcomes.{patternCount, Outcome, outcomeIn, note, notedMasksAt, orderAt, listsAt, listPlace, noteRoom, scoreAt, wordBase, patternIn, notesIn, Tallied, Room, Keeps, Noting}
-use Rattle.graph.specs.Offers.{spanStartIn, spanEndIn, valueIn, taskCount, OffersFit, offered, offeredWith, Carries, Listed}
+use Rattle.graph.specs.Offers.{spanStartIn, spanEndIn, lockIn, valueIn, taskCount, masksOffered, SpanFits, OffersFit, offered, offeredWith, Carries, Listed}
 use Rattle.graph.proofs.Notes.{few, keeps-refl, keeps-trans, keeps-fewer}
 use Rattle.graph.proofs.Tables.{table-same}
 
@@ -73,7 +76,7 @@ offered-last offers i p g x e = let z : taskCount offers - i ≡ 0 = omega arith
 pub offered-next : (offers : List ℕ) (i p g x : ℕ) → i < taskCount offers
     → offered offers (taskCount offers - i) i p g x
     ≡ offered offers (taskCount offers - (i + 1)) (i + 1) p g (x * fieldBase)
-    ++ offeredWith offers (taskCount offers - (i + 1)) (i + 1) p (g + valueIn offers i) (x * fieldBase) (clearIn p (spanStartIn offers i) (spanEndIn offers i))
+    ++ offeredWith offers (taskCount offers - (i + 1)) (i + 1) p (g + valueIn offers i) (x * fieldBase) (masksOffered offers i p)
 unfolding offered offeredWith
 offered-next offers i p g x lt = let s : taskCount offers - i ≡ suc (taskCount offers - (i + 1)) = omega arith in rw s
 
@@ -118,19 +121,41 @@ pub joined-fits : {offers : List ℕ} {i p g x : ℕ} (m : ℕ) → m < maskCoun
 joined-fits {i = i} m low o c =
     omega (arith, c .masks, power-le i (omega (arith, o .few, c .task)))
 
--- the list of the clear masks
-pub listed-clear : (taken at end i : ℕ) (m m′ : List ℕ) (r : ℕ) → end - at ≤ maskCount → i < maxTasks → noteRoom ≤ length m → ListsClear taken at end (listPlace i) m m′ r → Listed m′ (i + 1) (listPlace i) r
-listed-clear taken at end i m m′ r few lt room c = record {
+-- the masks that are offered
+pub offered-low : (offers : List ℕ) (i taken : ℕ) → SpanFits offers i → (k : ℕ) → getD (masksOffered offers i taken) k 0 < maskCount
+offered-low offers i taken f k = by (eqb (lockIn offers i) 0) refl
+  where
+    first : ℕ
+    first = spanStartIn offers i
+
+    count : ℕ
+    count = spanEndIn offers i
+
+    -- each run but the last is followed by another
+    run-low : (lockIn offers i ≡ 0 → ⊥) → (j : ℕ) → j < count → first * 2 ^ j < maskCount
+    run-low ne j lt =
+        let next : first * 2 ^ suc j ≤ first * 2 ^ count = mul-le-mul-left first (pow-mono {i = suc j} {j = count} lt) in
+        let twice : first * 2 ^ suc j ≡ first * 2 ^ j * 2 = ap (λ (x : ℕ). first * x) (pow-suc 2 j) ∙ sym (mul-assoc first (2 ^ j) 2) in
+        omega (arith, f .runs ne, next, twice)
+
+    by : (b : Bool) → eqb (lockIn offers i) 0 ≡ b → getD (cond b (clearIn taken first count) (clearRuns taken first count)) k 0 < maskCount
+    by true e = clear-low taken first count k
+    by false e = runs-low taken first count maskCount (lit< tt) (run-low (eqb-false (lockIn offers i) 0 e)) k
+
+-- the list of masks
+pub listed-masks : (ms : List ℕ) → ((k : ℕ) → getD ms k 0 < maskCount) → (i : ℕ) (m m′ : List ℕ) (r : ℕ) → i < maxTasks → noteRoom ≤ length m
+    → Lists ms maskCount (listPlace i) m m′ r → Listed m′ (i + 1) (listPlace i) r
+listed-masks ms below i m m′ r lt room c = record {
   from = omega arith;
   order = c .starts;
   within = omega (arith, c .ends);
-  low = λ k h h′. subst (λ (n : ℕ). n < maskCount) (entry k h h′) (clear-low taken at end (k - listPlace i));
+  low = λ k h h′. subst (λ (n : ℕ). n < maskCount) (entry k h h′) (below (k - listPlace i));
 }
   where
-    entry : (k : ℕ) → listPlace i ≤ k → k < r → getD (clearIn taken at end) (k - listPlace i) 0 ≡ getD m′ k 0
+    entry : (k : ℕ) → listPlace i ≤ k → k < r → getD ms (k - listPlace i) 0 ≡ getD m′ k 0
     entry k h h′ =
         let e : listPlace i + (k - listPlace i) ≡ k = omega arith in
-        ap (λ (l : List ℕ). getD l (k - listPlace i) 0) (sym (c .masks)) ∙ getD-take (r - listPlace i) (drop (listPlace i) m′) (k - listPlace i) 0 (omega arith)
+        ap (λ (l : List ℕ). getD l (k - listPlace i) 0) (sym (c .listed)) ∙ getD-take (r - listPlace i) (drop (listPlace i) m′) (k - listPlace i) 0 (omega arith)
         ∙ getD-drop (listPlace i) m′ (k - listPlace i) 0 ∙ ap (λ (j : ℕ). getD m′ j 0) e
 
 -- the list that is left, with what was noted in between

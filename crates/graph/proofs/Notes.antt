@@ -13,10 +13,10 @@ use lib.ListN.{length, getD, set, replicate, length-append, length-set, length-r
 use lib.Seq.{getD-set-same, getD-set-other}
 use borrow.Author.Tests.{lt-ltb, le-leb, lt-leb, eq-eqb, ne-eqb}
 use Rattle.model.specs.Lists.{keep, upFrom, one}
-use Rattle.model.proofs.Lists.{length-keep-le, getD-table}
+use Rattle.model.proofs.Lists.{length-keep-le, getD-table, table-more}
 use Rattle.policy.proofs.Lists.{length-table}
 use Rattle.graph.specs.Outcomes.{patternCount, Outcome, outcomeIn, Notes, note, notedMasksAt, orderAt, listsAt, noteRoom, scoreAt, wordBase, masksIn, patternIn, notesIn, withMasks, Tallied, Room, NotesFree, Keeps, Noting, nothingNoted, Cleared}
-use Rattle.graph.proofs.Tables.{table-same, table-set, table-const, table-more, length-keep-set}
+use Rattle.graph.proofs.Tables.{table-same, table-set, table-const, length-keep-set}
 
 -- ---- noting an outcome, by the score that is noted for its pattern
 

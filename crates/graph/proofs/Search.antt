@@ -2,14 +2,13 @@
 -- Assumes nothing.
 use mathlib.Core.Path.{_≡_, refl, sym, _∙_, ap, ap₂, subst}
 use mathlib.Core.Logic.{_⊎_, inl, inr, ⊎-elim}
-use mathlib.Core.Bool.{Bool, true, false, cond, _||_, _&&_, false≢true}
+use mathlib.Core.Bool.{Bool, true, false, cond, not, _||_, _&&_, false≢true}
 use mathlib.Core.List.{List, [], _∷_, _++_, map, List·Memᴰ, List·Memᴰ·head, List·Memᴰ·tail, List·Memᴰ·not-nil, List·Memᴰ·cases-cons, List·Memᴰ·eq-of-singleton, Memᴰ·map, Memᴰ·of-map}
 use mathlib.Core.Option.{Option, none, some}
 use Prim.Native.Nat.{ℕ, zero, suc, _+_, _-_, _*_, _/_, _%_, _^_, _<_, _≤_}
-use native.Mathlib.Nat.{add-zero, add-assoc, div-lt-iff-lt-mul, div-one}
+use native.Mathlib.Nat.{add-zero, add-assoc, mul-one, mul-assoc, pow-succ', div-lt-iff-lt-mul, div-one}
 use native.Mathlib.Decide.{decLt}
 use native.Mathlib.Omega.{arith}
-use lib.Count as count
 use lib.Bits.{bitAnd, bitOr}
 use lib.Dec.{T, eqb, ltb}
 use lib.ListN.{length, getD, take, drop, replicate, length-append, length-replicate, drop-of-length-le}
@@ -19,8 +18,8 @@ use borrow.Author.Tests.{eq-eqb, ne-eqb, eqb-true, eqb-false, lt-ltb, ltb-true, 
 use Rattle.model.specs.Check.{padded}
 use Rattle.model.specs.Graph.{choices, joined, worth}
 use Rattle.model.specs.Limits.{maxTasks, maxWindow}
-use Rattle.model.specs.Lists.{sameNumbers, ones}
-use Rattle.model.specs.Masks.{maskCount, masksOf}
+use Rattle.model.specs.Lists.{any, upFrom, sameNumbers, ones}
+use Rattle.model.specs.Masks.{maskCount, neighbouring, masksOf}
 use Rattle.model.specs.Plan.{Task}
 use Rattle.model.specs.Slot.{noTask}
 use Rattle.model.proofs.Lists.{mem-of-flatMap, mem-flatMap}
@@ -50,6 +49,16 @@ module _ (m w : ℕ) where
           absurd (ne (omega arith))
       by (no h) = omega arith
 
+-- a run by its places: the first of them, and the others from a run of twice its value
+module _ (m : ℕ) where
+  run-shift : (run i n : ℕ) → any (λ k. eqb m (run * 2 ^ k)) (upFrom (suc i) n) ≡ any (λ k. eqb m (run * 2 * 2 ^ k)) (upFrom i n)
+  run-shift run i zero = refl
+  run-shift run i (suc n) =
+      ap₂ (λ (a b : Bool). a || b) (ap (eqb m) (ap (λ (x : ℕ). run * x) (pow-succ' 2 i) ∙ sym (mul-assoc run 2 (2 ^ i)))) (run-shift run (suc i) n)
+
+  pub run-step : (run n : ℕ) → any (λ k. eqb m (run * 2 ^ k)) (upFrom 0 (suc n)) ≡ (eqb m run || any (λ k. eqb m (run * 2 * 2 ^ k)) (upFrom 0 n))
+  run-step run n = ap₂ (λ (a b : Bool). a || b) (ap (eqb m) (mul-one run)) (run-shift run 0 n)
+
 module _ (t : Task) (taken m : ℕ) where
   pub fits-zero : (b : Bool) → m ≡ 0 → fitsTask t b taken m ≡ true
   unfolding fitsTask
@@ -68,7 +77,8 @@ module _ (t : Task) (taken m : ℕ) where
     unfolding fitsTask
     fits-other h lt = rw (ne-eqb m 0 ne, lt-ltb m (2 ^ t .window) lt, ne-eqb (ones (t .window) m) (t .work) h)
 
-    pub fits-work : ones (t .window) m ≡ t .work → m < 2 ^ t .window → fitsTask t true taken m ≡ eqb (bitAnd m taken) 0
+    pub fits-work : ones (t .window) m ≡ t .work → m < 2 ^ t .window →
+        fitsTask t true taken m ≡ (eqb (bitAnd m taken) 0 && (not (t .locked) || neighbouring (t .window) m))
     unfolding fitsTask
     fits-work h lt = rw (ne-eqb m 0 ne, lt-ltb m (2 ^ t .window) lt, eq-eqb (ones (t .window) m) (t .work) h)
 
@@ -77,8 +87,14 @@ pub fits-mem : (t : Task) (b : Bool) (taken m : ℕ) → fitsTask t b taken m �
 unfolding fitsTask
 fits-mem t b taken m = by (eqb m 0) refl
   where
+    unbroken : Bool
+    unbroken = not (t .locked) || neighbouring (t .window) m
+
+    free : Bool
+    free = eqb (bitAnd m taken) 0 && unbroken
+
     worked : Bool
-    worked = eqb (ones (t .window) m) (t .work) && eqb (bitAnd m taken) 0
+    worked = eqb (ones (t .window) m) (t .work) && free
 
     inside : Bool
     inside = ltb m (2 ^ t .window) && worked
@@ -88,15 +104,17 @@ fits-mem t b taken m = by (eqb m 0) refl
     by false e h =
         let one = both b inside h in
         let two = both (ltb m (2 ^ t .window)) worked (one .1) in
-        let three = both (eqb (ones (t .window) m) (t .work)) (eqb (bitAnd m taken) 0) (two .1) in (
+        let three = both (eqb (ones (t .window) m) (t .work)) free (two .1) in
+        let four = both (eqb (bitAnd m taken) 0) unbroken (three .1) in (
           inr
               (record {
                 out = subst T (sym (one .0)) tt;
                 pos = omega (arith, eqb-false m 0 e);
                 below = ltb-true m (2 ^ t .window) (two .0);
                 size = eqb-true (ones (t .window) m) (t .work) (three .0);
+                run = λ l. ap (λ (d : Bool). not d || neighbouring (t .window) m) (sym l) ∙ four .1;
               }),
-          and-apart m taken .0 (eqb-true (bitAnd m taken) 0 (three .1)),
+          and-apart m taken .0 (eqb-true (bitAnd m taken) 0 (four .0)),
         )
 
 pub mem-fits : (t : Task) (b : Bool) (taken m : ℕ) → MaskOf t b m × Apart m taken → fitsTask t b taken m ≡ true
@@ -105,7 +123,12 @@ mem-fits t b taken m h = ⊎-elim (λ (e : m ≡ 0). fits-zero t taken m b e) (b
     by : (b : Bool) → Picked t b m → fitsTask t b taken m ≡ true
     by false p = absurd (p .out)
     by true p =
-        fits-work t taken m (λ e. omega (arith, p .pos)) (p .size) (p .below) ∙ eq-eqb (bitAnd m taken) 0 (and-apart m taken .1 (h .1))
+        fits-work t taken m (λ e. omega (arith, p .pos)) (p .size) (p .below)
+        ∙ ap₂ (λ (a d : Bool). a && d) (eq-eqb (bitAnd m taken) 0 (and-apart m taken .1 (h .1))) (unbroken (t .locked) (p .run))
+      where
+        unbroken : (l : Bool) → (l ≡ true → neighbouring (t .window) m ≡ true) → (not l || neighbouring (t .window) m) ≡ true
+        unbroken true n = n refl
+        unbroken false n = refl
 
 pub fits-low : (t : Task) (b : Bool) (taken m : ℕ) → t .window ≤ maxWindow → fitsTask t b taken m ≡ true → m < maskCount
 fits-low t b taken m h e =

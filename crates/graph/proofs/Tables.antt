@@ -1,16 +1,16 @@
 -- Laws of tables of a function, and of the count of the elements kept.
 -- Assumes nothing.
-use mathlib.Core.Path.{_≡_, sym, _∙_, ap}
+use mathlib.Core.Path.{_≡_, sym, _∙_}
 use mathlib.Core.Bool.{Bool, true, false}
-use mathlib.Core.List.{List, [], _∷_, _++_, map, map-append}
+use mathlib.Core.List.{List, [], _∷_, map}
 use Prim.Native.Nat.{ℕ, zero, suc, _+_, _<_}
-use native.Mathlib.Nat.{zero-add, not-suc-le-zero, le-of-suc-le-suc}
+use native.Mathlib.Nat.{not-suc-le-zero, le-of-suc-le-suc}
 use native.Mathlib.Decide.{decLt}
 use native.Mathlib.Omega.{arith}
 use lib.ListN.{length, getD, set, replicate, length-set, length-replicate, getD-replicate}
 use lib.Seq.{ext-getD, getD-set-same, getD-set-other}
 use Rattle.model.specs.Lists.{consIf, keep, upFrom, one}
-use Rattle.model.proofs.Lists.{getD-table, upFrom-append}
+use Rattle.model.proofs.Lists.{getD-table}
 use Rattle.policy.proofs.Lists.{length-table}
 
 module _ {ℓ} {A : Type ℓ} (f g : ℕ → A) (n : ℕ) where
@@ -45,11 +45,6 @@ module _ {ℓ} {A : Type ℓ} where
       ext-getD x (map f (upFrom 0 n)) (replicate n x) (length-table f n ∙ sym (length-replicate n x))
       (λ k h.
       let lt : k < n = omega (arith, length-table f n) in getD-table f n k x lt ∙ same k lt ∙ sym (getD-replicate n k x x lt))
-
-  pub table-more : (f : ℕ → A) (n : ℕ) → map f (upFrom 0 (n + 1)) ≡ map f (upFrom 0 n) ++ (f n ∷ [])
-  table-more f n =
-      ap (map f) (upFrom-append 0 n 1) ∙ map-append f (upFrom 0 n) (upFrom (0 + n) 1)
-      ∙ ap (λ k. map f (upFrom 0 n) ++ (f k ∷ [])) (zero-add n)
 
   length-consIf : (b : Bool) (x : A) (l : List A) → length (consIf b x l) ≡ one b + length l
   length-consIf true x l = omega arith

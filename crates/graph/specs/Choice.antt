@@ -1,5 +1,5 @@
 -- A choice of masks for a label, found by its masks.
-use mathlib.Core.Bool.{Bool, true, false, cond, _&&_, _||_}
+use mathlib.Core.Bool.{Bool, true, false, cond, not, _&&_, _||_}
 use mathlib.Core.List.{List, [], _∷_}
 use mathlib.Core.Option.{Option, none, some}
 use Prim.Native.Nat.{ℕ, _/_, _%_, _^_}
@@ -9,6 +9,7 @@ use lib.ListN.{drop}
 use Rattle.model.specs.Check.{padded}
 use Rattle.model.specs.Graph.{choices, joined, worth}
 use Rattle.model.specs.Lists.{sameNumbers, ones}
+use Rattle.model.specs.Masks.{neighbouring}
 use Rattle.model.specs.Plan.{Task}
 use Rattle.policy.specs.View.{Tasks}
 use Rattle.graph.specs.declared.Lead.the-variants as found
@@ -50,10 +51,12 @@ leadPattern (found.Some p g) = p
 
 -- ---- by a test of each mask
 
--- "either 0, or, if the label releases it, C bits below bit D, clear of the pattern and of the other masks"
+-- "either 0, or, if the label releases it, C bits below bit D, clear of the pattern and of the other masks"; "a locked task's mask is a run
+-- of neighbouring bits"
 unfoldable pub fitsTask : Task → Bool → ℕ → ℕ → Bool
 fitsTask t released taken m =
-    eqb m 0 || (released && (ltb m (2 ^ t .window) && (eqb (ones (t .window) m) (t .work) && eqb (bitAnd m taken) 0)))
+    let unbroken = not (t .locked) || neighbouring (t .window) m in
+    eqb m 0 || (released && (ltb m (2 ^ t .window) && (eqb (ones (t .window) m) (t .work) && (eqb (bitAnd m taken) 0 && unbroken))))
 
 abbrev pub allZero : List ℕ → Bool
 allZero [] = true

@@ -6,19 +6,20 @@ use policy::Rules;
 ghost use mathlib.Core.Path.{_≡_};
 ghost use mathlib.Core.Bool.{cond};
 ghost use mathlib.Core.List.{[], _∷_};
-ghost use Prim.Native.Nat.{ℕ, _+_, _-_, _*_, _/_, _%_, _^_, _≤_, _<_};
+ghost use Prim.Native.Nat.{ℕ, suc, _+_, _-_, _*_, _/_, _%_, _^_, _≤_, _<_};
 ghost use lib.Dec.{eqb};
 ghost use lib.ListN.{length, getD, drop, replicate};
 ghost use Rattle.model.specs.Bytes.{part};
 ghost use Rattle.model.specs.Limits.{maxTasks, maxWindow, maxValue, maxStates};
-ghost use Rattle.model.specs.Lists.{bit};
+ghost use Rattle.model.specs.Lists.{any, upFrom, bit};
 ghost use Rattle.model.specs.Masks.{maskCount, maskTable};
 ghost use Rattle.model.specs.Slot.{noTask};
 ghost use Rattle.words.specs.Packed.{fieldBase, unpacked};
 ghost use Rattle.plan.specs.View.{taskView};
+ghost use Rattle.masks.specs.Clear.{Lists};
 ghost use Rattle.policy.specs.View.{cellCount, Cells, tasksIn, InRange, Ruled};
 ghost use Rattle.graph.specs.Outcomes.{patternCount, outcomes, outcomeIn, listsAt, listPlace, noteRoom, wordBase, masksIn, patternIn, notesIn, withMasks, Room, Noting, Cleared, tasksReleased, Released, InBounds, chosenWith};
-ghost use Rattle.graph.specs.Offers.{spanStart, spanEnd, taskCount, wantedIn, OffersFit, OffersOf, offered, offeredWith, Carries, Listed};
+ghost use Rattle.graph.specs.Offers.{spanStart, spanEnd, taskCount, wantedIn, masksOffered, OffersFit, OffersOf, offered, offeredWith, Carries, Listed};
 ghost use Rattle.graph.specs.Choice.{choiceOf, ledOf, leadGain, leadPattern, fitsTask, allZero, nextChoice};
 ghost use Rattle.graph.specs.Edge.{noEdge, Stepped};
 ghost use Rattle.graph.specs.Label.{Readable, Reaches};
@@ -39,13 +40,16 @@ pub const NOTE_ROOM: usize = LISTS_AT + MAX_TASKS * masks::COUNT;
 // The masks of no pattern are wanted.
 pub const NO_PATTERN: u16 = Node::PATTERNS as u16;
 
-// What a label offers, numbers in one array: for each task where its masks start in the table, where they end, at the same place if
-// it is not released, and its value; then the number of tasks, and the pattern whose masks are wanted.
+// What a label offers, numbers in one array: for each task where its masks start in the table and where they end, or, of a locked one, its
+// first run and how many there are; its value; and 1 if it is locked, 0 if not. Then the number of tasks, and the pattern whose masks are
+// wanted. A task that is not released has no masks.
 const ENDS: usize = MAX_TASKS;
 
 const VALUES: usize = 2 * MAX_TASKS;
 
-const TASKS: usize = 3 * MAX_TASKS;
+const LOCKS: usize = 3 * MAX_TASKS;
+
+const TASKS: usize = 4 * MAX_TASKS;
 
 const WANTED: usize = TASKS + 1;
 
@@ -63,7 +67,7 @@ pub struct Release {
     pub label: u8,
 }
 
-// The masks of the table from `at` up to `end`.
+// The masks of the table from `at` up to `end`, or, of a locked task, `end` runs from `at` up.
 struct Span {
     at: usize,
     end: usize,
@@ -84,13 +88,28 @@ fn is_released(label: u8, i: usize) -> bool
     (label >> i) % 2 == 1
 }
 
-// Where the masks of a task's work within its window stand in the table; nowhere if it is not released.
+// The runs of a task's work within its window.
+fn runs_of(task: Task) -> Span
+    requires { ⌜ InRange (taskView task) ⌝ }
+    ensures { λ r. ⌜ (r .at ≡ 2 ^ task .work - 1) × (r .end ≡ suc (task .window - task .work)) ⌝ }
+{
+    let work = task.work as usize;
+    let window = task.window as usize;
+    let at = (1 << work) - 1;
+    let end = window - work + 1;
+    Span { at, end }
+}
+
+// The masks of a task's work within its window: where they stand in the table, or its runs; none if it is not released.
 fn span_of(task: Task, released: bool) -> Span
     requires { ⌜ InRange (taskView task) ⌝ }
     ensures { λ r. ⌜ (r .at ≡ spanStart (taskView task) released) × (r .end ≡ spanEnd (taskView task) released) ⌝ }
 {
     if !released {
         return Span { at: 0, end: 0 };
+    }
+    if task.locked {
+        return runs_of(task);
     }
     let work = task.work as usize;
     let window = task.window as usize;
@@ -115,6 +134,7 @@ fn offers_of(release: Release, wanted: u16) -> [usize; OFFERS]
         offers[i] = span.at;
         offers[ENDS + i] = span.end;
         offers[VALUES + i] = task.value as usize;
+        offers[LOCKS + i] = task.locked as usize;
         i += 1;
     }
     offers
@@ -157,6 +177,26 @@ fn note(
     count + 1
 }
 
+// Lists the masks that a label offers a task, clear of a pattern, and gives the place after them.
+fn list_masks(
+    table: &[u16; masks::COUNT],
+    offers: &[usize; OFFERS],
+    task: usize,
+    pattern: u32,
+    notes: &mut [u32; NOTE_ROOM],
+    from: usize,
+) -> usize
+    requires { ⌜ (now table ≡ maskTable) × OffersFit (now offers) × (task < taskCount (now offers)) × (from + maskCount ≤ length (now notes)) ⌝ }
+    ensures { λ r. ⌜ Lists (masksOffered (now (offers .entry)) task pattern) maskCount from (now (notes .entry)) (now (notes .exit)) r ⌝ }
+{
+    let at = offers[task];
+    let end = offers[ENDS + task];
+    if offers[LOCKS + task] == 0 {
+        return masks::list_clear(table, at, end, pattern, notes, from);
+    }
+    masks::list_runs(at as u32, end, pattern, notes, from)
+}
+
 // A listed mask, at a wider type.
 fn wide(m: u32) -> u64
     ensures { λ r. ⌜ (r ≡ m) × (r < wordBase) ⌝ }
@@ -193,14 +233,7 @@ fn note_task(
     let moved = masks * MASK_BASE;
     let idle = note_task(table, offers, next, pattern, gain, moved, notes, count);
     let from = LISTS_AT + task * masks::COUNT;
-    let to = masks::list_clear(
-        table,
-        offers[task],
-        offers[ENDS + task],
-        pattern,
-        notes,
-        from,
-    );
+    let to = list_masks(table, offers, task, pattern, notes, from);
     let more = gain + offers[VALUES + task] as u32;
     note_masks(
         table,
@@ -373,8 +406,22 @@ fn with_mask(chosen: Chosen, task: Task, m: u16) -> Chosen
     }
 }
 
+// Whether a mask is a run of neighbouring bits, moved up by fewer than so many places.
+fn is_run(m: u32, run: u32, places: usize) -> bool
+    requires { ⌜ run * 2 ^ places < 2 ^ 32 ⌝ }
+    ensures { λ r. ⌜ r ≡ any (λ k. eqb m (run * 2 ^ k)) (upFrom 0 places) ⌝ }
+{
+    if places == 0 {
+        return false;
+    }
+    if m == run {
+        return true;
+    }
+    is_run(m, run * 2, places - 1)
+}
+
 // Whether a mask is one for a task: 0, or, if the task is released, ones for its work within its
-// window, clear of the pattern.
+// window, clear of the pattern, and side by side if the task is locked.
 fn fits(task: Task, released: bool, pattern: u16, m: u16) -> bool
     requires { ⌜ task .window ≤ maxWindow ⌝ }
     ensures { λ r. ⌜ r ≡ fitsTask (taskView task) released pattern m ⌝ }
@@ -392,7 +439,14 @@ fn fits(task: Task, released: bool, pattern: u16, m: u16) -> bool
     if u32::count_ones(wide) != task.work as u32 {
         return false;
     }
-    m & pattern == 0
+    if m & pattern != 0 {
+        return false;
+    }
+    if !task.locked {
+        return true;
+    }
+    let run = (1u32 << task.work) - 1;
+    is_run(wide, run, task.window as usize + 1)
 }
 
 // The i-th of four packed masks.

@@ -17,12 +17,9 @@ use Rattle.model.specs.Limits.{maxWindow}
 use Rattle.model.specs.Lists.{keep, flatMap, upFrom, ones}
 use Rattle.model.specs.Masks.{maskCount, group, groupsBelow, maskTable, groupStart}
 use Rattle.model.proofs.Lists.{flatMap-append, upFrom-append, keep-below-from-one, length-keep-le, mem-of-keep, mem-keep, mem-of-upFrom, mem-upFrom, mem-getD, place, Rising, rising-upFrom, rising-keep, rising-at, rising-prefix}
+use Rattle.model.proofs.Runs.{ones-zero}
 
--- ones of n bits
-pub ones-zero : (n : ℕ) → ones n 0 ≡ 0
-ones-zero zero = refl
-ones-zero (suc n) = zero-add (ones n 0) ∙ ones-zero n
-
+-- n bits have n ones at most
 pub ones-le : (n m : ℕ) → ones n m ≤ n
 ones-le zero m = omega arith
 ones-le (suc n) m = omega (arith, ones-le n (m / 2))

@@ -1,14 +1,13 @@
 // The masks of ten bits, in the order of the constant table.
 use node::Node;
 ghost use mathlib.Core.Path.{_≡_};
-ghost use Prim.Native.Nat.{suc, _+_, _-_, _≤_, _^_};
-ghost use lib.Bits.{bitAnd};
-ghost use lib.Dec.{eqb, ltb};
+ghost use Prim.Native.Nat.{suc, _+_, _-_, _*_, _^_, _<_, _≤_};
+ghost use lib.Dec.{ltb};
 ghost use lib.ListN.{length};
 ghost use Rattle.model.specs.Limits.{maxWindow};
 ghost use Rattle.model.specs.Lists.{keep, one};
 ghost use Rattle.model.specs.Masks.{maskCount, maskTable, group, groupStart};
-ghost use Rattle.masks.specs.Clear.{ListsClear};
+ghost use Rattle.masks.specs.Clear.{clearOf, clearIn, clearRuns, Lists};
 
 // How many masks there are.
 pub const COUNT: usize = 1 << Node::MAX_WINDOW;
@@ -29,7 +28,7 @@ fn number(m: u16) -> u32
 
 // 1 for a mask that is clear of a pattern, 0 for any other.
 fn if_clear(m: u32, pattern: u32) -> usize
-    ensures { λ r. ⌜ r ≡ one (eqb (bitAnd m pattern) 0) ⌝ }
+    ensures { λ r. ⌜ r ≡ one (clearOf pattern m) ⌝ }
 {
     if m & pattern == 0 { 1 } else { 0 }
 }
@@ -45,7 +44,7 @@ pub fn list_clear(
     from: usize,
 ) -> usize
     requires { ⌜ (now table ≡ maskTable) × (at ≤ end) × (end ≤ maskCount) × (from + (end - at) ≤ length (now list)) ⌝ }
-    ensures { λ r. ⌜ ListsClear pattern at end from (now (list .entry)) (now (list .exit)) r ⌝ }
+    ensures { λ r. ⌜ Lists (clearIn pattern at end) (end - at) from (now (list .entry)) (now (list .exit)) r ⌝ }
 {
     let mut next = from;
     let mut k = at;
@@ -53,6 +52,24 @@ pub fn list_clear(
         let m = number(table[k]);
         list[next] = m;
         next += if_clear(m, pattern);
+        k += 1;
+    }
+    next
+}
+
+// Lists the masks that are clear of a pattern, of so many from the first up, each twice the one before, and gives the place after them. If the
+// first is the lowest c bits, these are the runs of c neighbouring bits.
+pub fn list_runs(first: u32, count: usize, pattern: u32, list: &mut [u32], from: usize) -> usize
+    requires { ⌜ (first * 2 ^ count < 2 ^ 32) × (from + count ≤ length (now list)) ⌝ }
+    ensures { λ r. ⌜ Lists (clearRuns pattern first count) count from (now (list .entry)) (now (list .exit)) r ⌝ }
+{
+    let mut next = from;
+    let mut m = first;
+    let mut k = 0;
+    while k < count {
+        list[next] = m;
+        next += if_clear(m, pattern);
+        m *= 2;
         k += 1;
     }
     next

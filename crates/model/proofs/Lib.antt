@@ -6,3 +6,4 @@ pub mod All
 pub mod Distinct
 pub mod Discovery
 pub mod Displaced
+pub mod Runs

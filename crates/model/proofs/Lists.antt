@@ -1,9 +1,9 @@
 -- Laws of keep, flatMap and upFrom, for any lists.
 -- Assumes nothing.
 use mathlib.Core.Path.{_≡_, refl, sym, _∙_, ap, ap₂, subst}
-use mathlib.Core.Logic.{⊎-elim}
+use mathlib.Core.Logic.{_↔_, ⊎-elim}
 use mathlib.Core.Bool.{Bool, true, false, _&&_, false≢true, and-comm}
-use mathlib.Core.List.{List, [], _∷_, _++_, map, append-assoc, append-nil, List·Memᴰ, List·Memᴰ·head, List·Memᴰ·tail, List·Memᴰ·not-nil, List·Memᴰ·cases-cons, List·Memᴰ·append-cases, Memᴰ·cast, Memᴰ·append-left, Memᴰ·append-right}
+use mathlib.Core.List.{List, [], _∷_, _++_, map, map-append, append-assoc, append-nil, List·Memᴰ, List·Memᴰ·head, List·Memᴰ·tail, List·Memᴰ·not-nil, List·Memᴰ·cases-cons, List·Memᴰ·append-cases, Memᴰ·cast, Memᴰ·append-left, Memᴰ·append-right}
 use mathlib.Core.Option.{Option, some}
 use Prim.Native.Nat.{ℕ, zero, suc, _+_, _-_, _*_, _<_, _≤_}
 use native.Mathlib.Nat.{zero-add, add-zero, suc-add, add-suc, mul-zero, mul-suc, add-sub-of-le, le-of-suc-le-suc, not-suc-le-zero}
@@ -167,6 +167,13 @@ pub upFrom-append : (k m n : ℕ) → upFrom k (m + n) ≡ upFrom k m ++ upFrom 
 upFrom-append k zero n = rw (zero-add, add-zero)
 upFrom-append k (suc m) n = rw (suc-add, add-suc) (ap (λ l. k ∷ l) (rw suc-add at (upFrom-append (suc k) m n)))
 
+-- a table of a function with one entry more
+pub table-from {ℓ} : {B : Type ℓ} (f : ℕ → B) (i k : ℕ) → map f (upFrom i (k + 1)) ≡ map f (upFrom i k) ++ (f (i + k) ∷ [])
+table-from f i k = ap (map f) (upFrom-append i k 1) ∙ map-append f (upFrom i k) (upFrom (i + k) 1)
+
+pub table-more {ℓ} : {B : Type ℓ} (f : ℕ → B) (n : ℕ) → map f (upFrom 0 (n + 1)) ≡ map f (upFrom 0 n) ++ (f n ∷ [])
+table-more f n = table-from f 0 n ∙ ap (λ k. map f (upFrom 0 n) ++ (f k ∷ [])) (zero-add n)
+
 -- the lists of one number more
 pub flatMap-snoc {ℓ} : {B : Type ℓ} (g : ℕ → List B) (n : ℕ) → flatMap g (upFrom 0 (suc n)) ≡ flatMap g (upFrom 0 n) ++ g n
 flatMap-snoc {B = B} g n =
@@ -258,3 +265,34 @@ rising-prefix b k (x ∷ l) r = go (ltb x b) refl (rising-prefix b (suc x) l (r 
         → take (length (consIf t x (keep (λ m. ltb m b) l))) (x ∷ l) ≡ consIf t x (keep (λ m. ltb m b) l)
     go true e h = ap (λ k. x ∷ k) h
     go false e h = rw (rising-none b (suc x) l (omega (arith, ltb-false x b e)) (r .1))
+
+-- none of numbers from k on is below k
+rising-mem : (k : ℕ) (l : List ℕ) → Rising k l → {a : ℕ} → List·Memᴰ a l → k ≤ a
+rising-mem k l r m = let p = place 0 m in subst (λ (x : ℕ). k ≤ x) (p .2) (rising-above k l r (p .0) (p .1))
+
+-- strictly rising numbers with the same members are the same
+pub rising-same : (j k : ℕ) (l l′ : List ℕ) → Rising j l → Rising k l′ → ((a : ℕ) → List·Memᴰ a l ↔ List·Memᴰ a l′) → l ≡ l′
+rising-same j k [] [] r r′ h = refl
+rising-same j k [] (y ∷ l′) r r′ h = absurd (List·Memᴰ·not-nil (h y .1 (List·Memᴰ·head refl)))
+rising-same j k (x ∷ l) [] r r′ h = absurd (List·Memᴰ·not-nil (h x .0 (List·Memᴰ·head refl)))
+rising-same j k (x ∷ l) (y ∷ l′) r r′ h =
+    ap₂ (λ z zs. z ∷ zs) first
+    (rising-same (suc x) (suc y) l l′ (r .1) (r′ .1)
+    (λ a. (λ m. later l l′ (r .1) first m (h a .0 (List·Memᴰ·tail m)), λ m. later l′ l (r′ .1) (sym first) m (h a .1 (List·Memᴰ·tail m)))))
+  where
+    first : x ≡ y
+    first =
+        omega (
+          arith,
+          rising-mem x (x ∷ l) (omega arith, r .1) (h y .1 (List·Memᴰ·head refl)),
+          rising-mem y (y ∷ l′) (omega arith, r′ .1) (h x .0 (List·Memᴰ·head refl)),
+        )
+
+    later : {u v a : ℕ} (us vs : List ℕ) → Rising (suc u) us → u ≡ v → List·Memᴰ a us → List·Memᴰ a (v ∷ vs) → List·Memᴰ a vs
+    later {u} us vs s e m m′ =
+        ⊎-elim (λ p. absurd (omega (arith, rising-mem (suc u) us s m))) (λ among. among) (List·Memᴰ·cases-cons m′)
+
+-- a table of numbers, each below the next
+pub rising-table : (f : ℕ → ℕ) → ((k : ℕ) → f k < f (suc k)) → (k n : ℕ) → Rising (f k) (map f (upFrom k n))
+rising-table f h k zero = tt
+rising-table f h k (suc n) = (omega arith, rising-from (map f (upFrom (suc k) n)) (h k) (rising-table f h (suc k) n))

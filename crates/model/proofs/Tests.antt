@@ -1,7 +1,7 @@
 -- Tests as facts and back.
 -- Assumes nothing.
 use mathlib.Core.Path.{_≡_, refl, sym, _∙_, ap, ap₂, subst}
-use mathlib.Core.Bool.{Bool, true, false, cond, _&&_, _||_, and-false, false≢true}
+use mathlib.Core.Bool.{Bool, true, false, cond, not, _&&_, _||_, and-false, false≢true}
 use mathlib.Core.Logic.{_↔_, _⊎_, inl, inr, ⊎-elim}
 use mathlib.Core.List.{List, [], _∷_, List·Memᴰ, List·Memᴰ·head, List·Memᴰ·tail, List·Memᴰ·not-nil, List·Memᴰ·cases-cons}
 use mathlib.Core.Option.{Option, none, some, Option·none-ne-some}
@@ -78,6 +78,11 @@ or-right false b h = h
 -- two tests that are true are true together
 pub true-and : (a b : Bool) → a ≡ true → b ≡ true → (a && b) ≡ true
 true-and a b p q = ap₂ (λ s t. s && t) p q
+
+-- the test that one implies the other
+pub implies-test : (a b : Bool) → ((not a || b) ≡ true) ↔ (a ≡ true → b ≡ true)
+implies-test true b = (λ h k. h, λ h. h refl)
+implies-test false b = (λ h k. absurd (false≢true k), λ h. refl)
 
 -- a test that must be true for a value
 pub cond-some {ℓ} : {A : Type ℓ} (b : Bool) (o : Option A) {c : A} → cond b o none ≡ some c → (b ≡ true) × (o ≡ some c)

@@ -1,19 +1,20 @@
 -- The marked cases of document 01, as the requests leave them, in the long-read edition's widths: one table, and one theorem that the definitions give every line of it. Beside
 -- it, since passes are a relation and no function, those of the request about passes.
 use mathlib.Core.Path.{_≡_, refl}
-use Prim.Native.Nat.{ℕ, suc}
+use Prim.Native.Nat.{ℕ, suc, _+_}
+use mathlib.Core.Bool.{false}
 use mathlib.Core.List.{List, [], _∷_, _++_, map}
 use mathlib.Core.Option.{Option, none, some}
 use lib.IntN.{ℤ, pos, negsuc}
 use lib.ListN.{length, replicate}
 use Rattle.model.specs.Limits.{workRoom, certificateRoom, traceRoom}
-use Rattle.model.specs.Edition.{firstEdition, longReads, planRoomIn}
+use Rattle.model.specs.Edition.{firstEdition, longReads, planRoomIn, planRoom}
 use Rattle.model.specs.Lists.{flatMap, upFrom}
 use Rattle.model.specs.Discovery.{found}
 use Rattle.model.specs.Bytes.{number, bytes, signed, complement}
 use Rattle.model.specs.Plan.{Plan, sound, readPlan, readPlanIn, readFrom, firstFault, fault, after, width, lastOperand, mayFollow, inRange, taskInRange, arcInRange}
-use Rattle.model.specs.Slot.{slot, ready, first, key}
-use Rattle.model.specs.Masks.{masksOf}
+use Rattle.model.specs.Slot.{slot, ready, first, policyKey, key}
+use Rattle.model.specs.Masks.{freeMasks, neighbouring, masksOf}
 use Rattle.model.specs.Graph.{choices, edgeOf, edgesAt, edges, nodes, tooLarge}
 use Rattle.model.specs.Certificate.{Certificate, certificateBytesIn, certificateBytes, readCertificate, readCertificateIn, readPotentials, readSteps}
 use Rattle.model.specs.Check.{CheckAnswer, check, verdict, fractionOk, gcd, potentialsOk, cycleOk, follow, allowance}
@@ -21,11 +22,13 @@ use Rattle.model.specs.Thousandths.{thousandths}
 use Rattle.model.specs.Passes.{beginning, relaxNode, pass, PassesTo, last, more}
 use Rattle.model.specs.Calls.{Writing, refuses, writes}
 use Rattle.model.specs.Trace.{Row, trace, traceRun}
-use Rattle.model.specs.PlanBytes.{planBytesIn}
+use Rattle.model.specs.PlanBytes.{planBytesIn, planBytes, arcsOf}
+use Rattle.model.specs.Gap.{releases, gapPlan, taskGap}
+use Rattle.model.specs.Combine.{pairs, manyPairs, combined, combine}
 use Rattle.model.specs.Convert.{forth, back, widened}
 
 -- what goes in: the bytes of a plan with those of a certificate or with labels, or of a certificate alone; p and q of a share; the bytes of
--- a plan to be sent forth or back, or of a certificate to be widened
+-- a plan to be sent forth or back, to be given a gap or to be combined with another, or of a certificate to be widened
 pub data Input : Type 0 where
   checking : List ℕ → List ℕ → Input
   tracing : List ℕ → List ℕ → Input
@@ -33,6 +36,8 @@ pub data Input : Type 0 where
   printing : ℕ → ℕ → Input
   sending : List ℕ → Input
   returning : List ℕ → Input
+  spacing : List ℕ → (i g : ℕ) → Input
+  combining : List ℕ → List ℕ → Input
   widening : List ℕ → Input
 
 -- what comes out: the numbers of the checked line; the task that ran, the gain and the task cut in each slot; the potentials; m; bytes;
@@ -69,6 +74,8 @@ outcome (potentials certificate) = potentialsRead (readCertificate certificate)
 outcome (printing p q) = prints (thousandths p q)
 outcome (sending plan) = written (planBytesIn longReads) (forth plan (planRoomIn longReads))
 outcome (returning plan) = written (planBytesIn firstEdition) (back plan (planRoomIn firstEdition))
+outcome (spacing plan i g) = written planBytes (taskGap plan i g planRoom)
+outcome (combining plan other) = written planBytes (combine plan other planRoom)
 outcome (widening certificate) = written certificateBytes (widened certificate certificateRoom)
 
 pub record Case : Type 0 where
@@ -126,6 +133,26 @@ certificateF =
 abbrev pub planG : List ℕ
 planG = 0x01 ∷ 0x01 ∷ 0x01 ∷ 0x00 ∷ 0x01 ∷ 0x01 ∷ 0x02 ∷ 0x04 ∷ 0x00 ∷ 0x03 ∷ 0x02 ∷ 0x01 ∷ 0x03 ∷ 0x01 ∷ 0x04 ∷ 0x00 ∷ 0x00 ∷ 0x00 ∷ 0x04 ∷ 0x00 ∷ 0x01 ∷ 0x00 ∷ 0x04 ∷ 0x00 ∷ 0x02 ∷ 0x00 ∷ 0x04 ∷ 0x00 ∷ 0x03 ∷ 0x00 ∷ 0x05 ∷ []
 
+-- H, of the second implementation: task (2,3,28108), SP, a job every three slots; locked where these bytes are `09 01`
+abbrev pub planH : List ℕ → List ℕ
+planH locks =
+    0x01 ∷ 0x02 ∷ 0x03 ∷ 0x6d ∷ 0xcc
+    ∷ (locks ++ (0x02 ∷ 0x04 ∷ 0x03 ∷ 0x03 ∷ 0x04 ∷ 0x00 ∷ 0x01 ∷ 0x01 ∷ 0x04 ∷ 0x01 ∷ 0x00 ∷ 0x02 ∷ 0x04 ∷ 0x02 ∷ 0x00 ∷ 0x00 ∷ 0x05 ∷ []))
+
+-- its certificate, where the job has so many masks, with the cycle in which it has this one
+abbrev pub certificateH : ℕ → ℕ → List ℕ
+certificateH count mask =
+    let even : List ℕ = 0x12 ∷ replicate 8 0x00 in
+    let owed : List ℕ = 0x12 ∷ (replicate 6 0xff ++ (0x92 ∷ 0x34 ∷ [])) in
+    let idle : List ℕ = 0x14 ∷ replicate 9 0x00 in
+    (0x11 ∷ 0x00 ∷ 0x00 ∷ 0x00 ∷ 0x01 ∷ 0x00 ∷ 0x00 ∷ 0x00 ∷ 0x01 ∷ 0x00 ∷ (count + 4) ∷ (even ++ even))
+    ++ (flatMap (λ i. owed) (upFrom 0 count) ++ (even ++ even))
+    ++ ((0x13 ∷ 0x00 ∷ 0x00 ∷ 0x14 ∷ 0x01 ∷ 0x00 ∷ mask ∷ replicate 6 0x00) ++ (idle ++ (idle ++ (0x15 ∷ []))))
+
+-- I, of our own: tasks (1,1,1) and (3,3,4), the second locked, EDF, one state admitting labels 0 to 3
+abbrev pub planI : List ℕ
+planI = 0x01 ∷ 0x01 ∷ 0x01 ∷ 0x00 ∷ 0x01 ∷ 0x01 ∷ 0x03 ∷ 0x03 ∷ 0x00 ∷ 0x04 ∷ 0x09 ∷ 0x02 ∷ 0x02 ∷ 0x01 ∷ 0x03 ∷ 0x01 ∷ 0x04 ∷ 0x00 ∷ 0x00 ∷ 0x00 ∷ 0x04 ∷ 0x00 ∷ 0x01 ∷ 0x00 ∷ 0x04 ∷ 0x00 ∷ 0x02 ∷ 0x00 ∷ 0x04 ∷ 0x00 ∷ 0x03 ∷ 0x00 ∷ 0x05 ∷ []
+
 -- A and its certificate as the first edition has them: `01 01 01 01 02 01 03 01 04 00 00 00 04 00 01 00 05`
 abbrev pub firstPlanA : List ℕ
 firstPlanA = 0x01 ∷ 0x01 ∷ 0x01 ∷ 0x01 ∷ 0x02 ∷ 0x01 ∷ 0x03 ∷ 0x01 ∷ 0x04 ∷ 0x00 ∷ 0x00 ∷ 0x00 ∷ 0x04 ∷ 0x00 ∷ 0x01 ∷ 0x00 ∷ 0x05 ∷ []
@@ -141,15 +168,30 @@ withTask c d v = 0x01 ∷ c ∷ d ∷ 0x00 ∷ v ∷ 0x02 ∷ 0x01 ∷ 0x03 ∷ 
 abbrev pub valueAbove : List ℕ
 valueAbove = 0x01 ∷ 0x01 ∷ 0x01 ∷ 0x01 ∷ 0x00 ∷ 0x02 ∷ 0x01 ∷ 0x03 ∷ 0x01 ∷ 0x05 ∷ []
 
+-- the task of plan D so many times
+abbrev pub taskTimes : ℕ → List ℕ
+taskTimes n = flatMap (λ i. 0x01 ∷ 0x01 ∷ 0x01 ∷ 0x00 ∷ 0x01 ∷ []) (upFrom 1 n)
+
 -- plan D with the task five times
 abbrev pub fiveTasks : List ℕ
-fiveTasks = flatMap (λ i. 0x01 ∷ 0x01 ∷ 0x01 ∷ 0x00 ∷ 0x01 ∷ []) (upFrom 1 4) ++ planD
+fiveTasks = taskTimes 4 ++ planD
+
+-- plan D with the task twice and these bytes behind it
+abbrev pub twiceWith : List ℕ → List ℕ
+twiceWith bs = taskTimes 2 ++ (bs ++ (0x02 ∷ 0x01 ∷ 0x03 ∷ 0x01 ∷ 0x05 ∷ []))
+
+-- plan D of the first edition, with these bytes behind its task
+abbrev pub firstWith : List ℕ → List ℕ
+firstWith bs = 0x01 ∷ 0x01 ∷ 0x01 ∷ 0x01 ∷ (bs ++ (0x02 ∷ 0x01 ∷ 0x03 ∷ 0x01 ∷ 0x05 ∷ []))
 
 -- "Case B with labels 3, 0 now runs task 1, then task 2, and gains 1, then 0; its fraction becomes 0/1 with m 0"; "1/16 prints 62 and 3/16
 -- prints 188", "`none` is kept for 1/0", and 1/3, of which the rest is 1 and no half of 3; "with D 11 in place of D 9"; "Trace case B has `0`, `2`,
 -- `0` in it". Of our own: in B, with label 1 behind, a job that its deadline removed is not cut; in G task 2 is cut in slot 1 and not again
 -- in slot 2, nor in slot 6, where the job that ran is done and the one that waits is another; A sent forth and back, long-read bytes sent
--- forth, D 9 and V 256 sent back, D 9 with a fault behind it, and A's certificate widened.
+-- forth, D 9 and V 256 sent back, D 9 with a fault behind it, and A's certificate widened. Of locks: H takes a run of neighbouring bits and
+-- refuses the mask 5, which it takes unlocked; in I task 2, once begun, runs on although task 1 has fewer slots left or as many, also where
+-- it can't finish, but waits until it has begun; numbers that fall, stand twice or are not there, the last before the others; `09` before
+-- and between tasks, after `02`, and in the first edition; and what is written, combined or sent back from a locked plan.
 abbrev pub cases : List Case
 cases =
     (checking planA certificateA gives line 1 1 1 0 (some 1000))
@@ -178,11 +220,28 @@ cases =
     ∷ (returning valueAbove gives refusal 16)
     ∷ (returning (withTask 1 9 1 ++ (0x05 ∷ [])) gives refusal 3)
     ∷ (widening firstCertificateA gives wrote certificateA)
+    ∷ (checking (planH (0x09 ∷ 0x01 ∷ [])) (certificateH 2 3) gives line 1 1 6 28108 (some 1000))
+    ∷ (checking (planH (0x09 ∷ 0x01 ∷ [])) (certificateH 2 5) gives refusal 10)
+    ∷ (checking (planH []) (certificateH 3 5) gives line 1 1 7 28108 (some 1000))
+    ∷ (tracing planI (2 ∷ 1 ∷ 1 ∷ []) gives slots ((2, 0, 0) ∷ (2, 0, 0) ∷ (2, 4, 0) ∷ []))
+    ∷ (tracing planI (3 ∷ 0 ∷ 1 ∷ []) gives slots ((1, 1, 0) ∷ (2, 0, 0) ∷ (2, 0, 0) ∷ []))
+    ∷ (checking (twiceWith (0x09 ∷ 0x02 ∷ 0x09 ∷ 0x01 ∷ [])) [] gives refusal 3)
+    ∷ (checking (twiceWith (0x09 ∷ 0x01 ∷ 0x09 ∷ 0x01 ∷ [])) [] gives refusal 3)
+    ∷ (checking (twiceWith (0x09 ∷ 0x03 ∷ [])) [] gives refusal 4)
+    ∷ (checking (twiceWith (0x09 ∷ 0x01 ∷ 0x09 ∷ 0x00 ∷ [])) [] gives refusal 4)
+    ∷ (checking (0x09 ∷ 0x01 ∷ planD) [] gives refusal 3)
+    ∷ (checking (twiceWith (0x09 ∷ 0x01 ∷ taskTimes 1)) [] gives refusal 3)
+    ∷ (checking (taskTimes 1 ++ (0x02 ∷ 0x01 ∷ 0x09 ∷ 0x01 ∷ 0x03 ∷ 0x01 ∷ 0x05 ∷ [])) [] gives refusal 3)
+    ∷ (sending (firstWith (0x09 ∷ 0x01 ∷ [])) gives refusal 2)
+    ∷ (returning (twiceWith (0x09 ∷ 0x01 ∷ [])) gives refusal 16)
+    ∷ (spacing (planH (0x09 ∷ 0x01 ∷ [])) 1 1 gives wrote (0x01 ∷ 0x02 ∷ 0x03 ∷ 0x6d ∷ 0xcc ∷ 0x09 ∷ 0x01 ∷ 0x02 ∷ 0x04 ∷ 0x03 ∷ 0x01 ∷ 0x04 ∷ 0x00 ∷ 0x00 ∷ 0x00 ∷ 0x04 ∷ 0x00 ∷ 0x01 ∷ 0x00 ∷ 0x05 ∷ []))
+    ∷ (combining (twiceWith (0x09 ∷ 0x02 ∷ [])) (twiceWith (0x09 ∷ 0x02 ∷ [])) gives wrote (twiceWith (0x09 ∷ 0x02 ∷ [])))
+    ∷ (combining (twiceWith (0x09 ∷ 0x02 ∷ [])) (twiceWith []) gives refusal 4)
     ∷ []
 
 -- the definitions give every case its output
 pub marked : map (λ c. outcome (c .input)) cases ≡ map (λ c. c .output) cases
-unfolding number signed readPlanIn readFrom firstFault fault after width lastOperand mayFollow inRange taskInRange arcInRange slot ready first key masksOf choices edgeOf edgesAt edges found nodes tooLarge readCertificateIn readPotentials readSteps check verdict fractionOk gcd potentialsOk cycleOk follow allowance thousandths trace traceRun forth back widened planBytesIn certificateBytesIn bytes complement
+unfolding number signed readPlanIn readFrom firstFault fault after width lastOperand mayFollow inRange taskInRange arcInRange slot ready first policyKey key freeMasks neighbouring masksOf choices edgeOf edgesAt edges found nodes tooLarge readCertificateIn readPotentials readSteps check verdict fractionOk gcd potentialsOk cycleOk follow allowance thousandths trace traceRun forth back widened arcsOf releases gapPlan taskGap pairs manyPairs combined combine planBytesIn certificateBytesIn bytes complement
 marked = refl
 
 -- ---- the passes of A, B and C, and of a plan whose nodes have to be taken by number
@@ -193,16 +252,16 @@ planE = 0x01 ∷ 0x02 ∷ 0x02 ∷ 0x00 ∷ 0x45 ∷ 0x02 ∷ 0x02 ∷ 0x03 ∷ 
 
 -- the plans
 abbrev pub readA : Plan
-readA = record { tasks = record { work = 1; window = 1; value = 1 } ∷ []; policy = 1; states = 1; arcs = map (λ l. record { from = 0; label = l; to = 0 }) (upFrom 0 2) }
+readA = record { tasks = record { work = 1; window = 1; value = 1; locked = false } ∷ []; policy = 1; states = 1; arcs = map (λ l. record { from = 0; label = l; to = 0 }) (upFrom 0 2) }
 
 abbrev pub readB : Plan
-readB = record { tasks = record { work = 1; window = 1; value = 1 } ∷ record { work = 2; window = 2; value = 3 } ∷ []; policy = 1; states = 1; arcs = map (λ l. record { from = 0; label = l; to = 0 }) (upFrom 0 4) }
+readB = record { tasks = record { work = 1; window = 1; value = 1; locked = false } ∷ record { work = 2; window = 2; value = 3; locked = false } ∷ []; policy = 1; states = 1; arcs = map (λ l. record { from = 0; label = l; to = 0 }) (upFrom 0 4) }
 
 abbrev pub readC : Plan
-readC = record { tasks = record { work = 1; window = 1; value = 1 } ∷ []; policy = 1; states = 2; arcs = record { from = 0; label = 1; to = 1 } ∷ record { from = 1; label = 0; to = 1 } ∷ [] }
+readC = record { tasks = record { work = 1; window = 1; value = 1; locked = false } ∷ []; policy = 1; states = 2; arcs = record { from = 0; label = 1; to = 1 } ∷ record { from = 1; label = 0; to = 1 } ∷ [] }
 
 abbrev pub readE : Plan
-readE = record { tasks = record { work = 2; window = 2; value = 69 } ∷ []; policy = 2; states = 1; arcs = map (λ l. record { from = 0; label = l; to = 0 }) (upFrom 0 2) }
+readE = record { tasks = record { work = 2; window = 2; value = 69; locked = false } ∷ []; policy = 2; states = 1; arcs = map (λ l. record { from = 0; label = l; to = 0 }) (upFrom 0 2) }
 
 -- plan bytes are read as P, and the passes at p/q find these potentials
 pub record PassesFor (plan : List ℕ) (P : Plan) (p q : ℕ) (zs : List ℤ) (k : ℕ) : Type 0 where
@@ -211,22 +270,22 @@ pub record PassesFor (plan : List ℕ) (P : Plan) (p q : ℕ) (zs : List ℤ) (k
 
 -- "1 in case A, 2 in case C", and 2 in case B
 pub passes-A : PassesFor planA readA 1 1 (pos 0 ∷ []) 1
-unfolding number readPlanIn readFrom firstFault fault after width lastOperand mayFollow inRange taskInRange arcInRange slot ready first key masksOf choices edgeOf edgesAt edges found nodes relaxNode pass
+unfolding number readPlanIn readFrom firstFault fault after width lastOperand mayFollow inRange taskInRange arcInRange slot ready first policyKey key freeMasks neighbouring masksOf choices edgeOf edgesAt edges found nodes relaxNode pass
 passes-A = record { read = refl; passes = last refl }
 
 pub passes-B : PassesFor planB readB 0 1 (pos 0 ∷ pos 0 ∷ pos 0 ∷ pos 1 ∷ pos 1 ∷ []) 2
-unfolding number readPlanIn readFrom firstFault fault after width lastOperand mayFollow inRange taskInRange arcInRange slot ready first key masksOf choices edgeOf edgesAt edges found nodes relaxNode pass
+unfolding number readPlanIn readFrom firstFault fault after width lastOperand mayFollow inRange taskInRange arcInRange slot ready first policyKey key freeMasks neighbouring masksOf choices edgeOf edgesAt edges found nodes relaxNode pass
 passes-B =
     let end = map some (pos 0 ∷ pos 0 ∷ pos 0 ∷ pos 1 ∷ pos 1 ∷ []) in
     record { read = refl; passes = more {ds = beginning 5} {es = end} refl (last {ds = end} refl) }
 
 pub passes-C : PassesFor planC readC 1 0 (pos 0 ∷ negsuc 0 ∷ []) 2
-unfolding number readPlanIn readFrom firstFault fault after width lastOperand mayFollow inRange taskInRange arcInRange slot ready first key masksOf choices edgeOf edgesAt edges found nodes relaxNode pass
+unfolding number readPlanIn readFrom firstFault fault after width lastOperand mayFollow inRange taskInRange arcInRange slot ready first policyKey key freeMasks neighbouring masksOf choices edgeOf edgesAt edges found nodes relaxNode pass
 passes-C = record { read = refl; passes = more refl (last refl) }
 
 -- and 2 for E, since a node's distance that a pass finds serves the nodes after it in the same pass
 pub passes-E : PassesFor planE readE 0 1 (pos 0 ∷ pos 0 ∷ pos 0 ∷ pos 69 ∷ pos 69 ∷ []) 2
-unfolding number readPlanIn readFrom firstFault fault after width lastOperand mayFollow inRange taskInRange arcInRange slot ready first key masksOf choices edgeOf edgesAt edges found nodes relaxNode pass
+unfolding number readPlanIn readFrom firstFault fault after width lastOperand mayFollow inRange taskInRange arcInRange slot ready first policyKey key freeMasks neighbouring masksOf choices edgeOf edgesAt edges found nodes relaxNode pass
 passes-E =
     let end = map some (pos 0 ∷ pos 0 ∷ pos 0 ∷ pos 69 ∷ pos 69 ∷ []) in
     record { read = refl; passes = more {ds = beginning 5} {es = end} refl (last {ds = end} refl) }

@@ -1,7 +1,7 @@
 -- Two automata over the same tasks as one: the reachable pairs of states, what the call answers, and what the plan written admits.
 use mathlib.Core.Path.{_≡_}
 use Prim.Native.Nat.{ℕ, _^_, _<_}
-use mathlib.Core.Bool.{Bool, false, cond, _&&_}
+use mathlib.Core.Bool.{Bool, Bool·beq, false, cond, _&&_}
 use mathlib.Core.List.{List, List·Memᴰ}
 use mathlib.Core.Option.{Option, none, some}
 use lib.Dec.{ltb, eqb}
@@ -71,8 +71,9 @@ combined P Q =
 
 -- ---- the call
 
+-- "in A.2 tasks that differ in a lock are different"
 abbrev pub sameTask : Task → Task → Bool
-sameTask a b = eqb (a .work) (b .work) && eqb (a .window) (b .window) && eqb (a .value) (b .value)
+sameTask a b = eqb (a .work) (b .work) && eqb (a .window) (b .window) && eqb (a .value) (b .value) && Bool·beq (a .locked) (b .locked)
 
 -- "then different tasks are 4"; "15: more than 16 reachable pairs, tried last"
 abbrev pub combineIn : Plan → Plan → Writing Plan

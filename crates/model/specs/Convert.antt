@@ -2,7 +2,7 @@
 -- carries over.
 use mathlib.Core.Path.{_≡_}
 use Prim.Native.Nat.{ℕ, _≤_}
-use mathlib.Core.Bool.{Bool, false, cond, _&&_}
+use mathlib.Core.Bool.{Bool, false, cond, not, _&&_, _||_}
 use mathlib.Core.List.{List}
 use mathlib.Core.Option.{Option, none, some}
 use lib.Dec.{leb}
@@ -24,11 +24,11 @@ use Rattle.model.specs.PlanBytes.{planBytesIn}
 unfoldable pub forth : List ℕ → ℕ → Writing Plan
 forth plan lent = withRoom planRoom lent (withPlan (readPlanIn firstEdition plan) writes)
 
--- what an edition can say of a task: no D and no V above its largest
+-- what an edition can say of a task: no D and no V above its largest, and a lock only where it has locks
 abbrev pub says : Edition → Task → Bool
-says e t = leb (t .window) (e .window) && leb (t .value) (e .value)
+says e t = leb (t .window) (e .window) && leb (t .value) (e .value) && (not (t .locked) || e .locks)
 
--- "it refuses what the old form can't say": "a D above 8 or a V above 255"
+-- "it refuses what the old form can't say": "a D above 8 or a V above 255", and "a plan with `09` sent back to the first edition is 16"
 abbrev pub backOf : Plan → Writing Plan
 backOf P = cond (all (says firstEdition) (P .tasks)) (writes P) (refuses notInFirst)
 

@@ -6,7 +6,7 @@ use mathlib.Core.List.{List, [], List·Memᴰ}
 use mathlib.Core.Option.{Option, some}
 use lib.ListN.{length, getD, take}
 use Rattle.model.specs.Plan.{Plan}
-use Rattle.model.specs.Slot.{Job, JobId, hasId, worked, tick, chosenIn, slot, jobsAfter}
+use Rattle.model.specs.Slot.{Job, JobId, taskOf, hasId, worked, tick, chosenIn, slot, jobsAfter}
 use Rattle.model.specs.Trace.{rowSize}
 
 -- What is displaced is the job that ran in the slot before. It is among the jobs js that the slot finds, unfinished, and is never the one
@@ -29,11 +29,12 @@ abbrev pub InterruptedAfter : Plan → List ℕ → ℕ → Job → Type 0
 InterruptedAfter P run t j = Interrupted P (jobsAfter P [] (take t run)) (getD run t 0) (getD run (suc t) 0) j
 
 -- "a last column `cut` with the displaced job's task, 0 for none", told of each slot: nobody in the first one, and in every later one the job
--- that is displaced
+-- that is displaced; a locked job, "once begun, runs to its end", so none of them is
 pub record TellsCuts (P : Plan) (run : List ℕ) (cut : ℕ → ℕ) : Type 0 where
   pub first : 0 < length run → cut 0 ≡ 0
   pub told : (t : ℕ) → suc t < length run → (j : Job) → InterruptedAfter P run t j → (cut (suc t) ≡ j .task) × (0 < j .task)
   pub only : (t : ℕ) → suc t < length run → 0 < cut (suc t) → (j : Job) × InterruptedAfter P run t j × (cut (suc t) ≡ j .task)
+  pub unlocked : (t : ℕ) → suc t < length run → 0 < cut (suc t) → taskOf (P .tasks) (cut (suc t)) .locked ≡ false
 
 -- "the trace call writes it as a fourth byte for each label"
 abbrev pub cutIn : List ℕ → ℕ → ℕ

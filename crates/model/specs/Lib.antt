@@ -21,6 +21,7 @@ pub mod Trace
 pub mod Hopeless
 pub mod Interrupted
 pub mod PlanBytes
+pub mod Locks
 pub mod Gap
 pub mod Combine
 pub mod Convert

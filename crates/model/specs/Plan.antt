@@ -8,7 +8,7 @@ use lib.Dec.{leb, ltb, eqb}
 use lib.ListN.{length, getD, drop}
 use Rattle.model.specs.Limits.{maxTasks, maxStates}
 use Rattle.model.specs.Edition.{Edition, longReads, taskWidth}
-use Rattle.model.specs.Lists.{upFrom}
+use Rattle.model.specs.Lists.{any, upFrom}
 use Rattle.model.specs.Bytes.{number}
 use Rattle.model.specs.Refusals.{bytesEnd, unknownCommand, outOfPlace, outOfRange}
 
@@ -16,6 +16,7 @@ pub record Task : Type 0 where
   pub work : ℕ  -- C, slots of work
   pub window : ℕ  -- D
   pub value : ℕ  -- V, the gain
+  pub locked : Bool  -- whether a job of it, "once begun, runs to its end"
 
 -- "in state S label L is admitted and leads to T"
 pub record Arc : Type 0 where
@@ -60,9 +61,9 @@ between low n high = leb low n && leb n high
 abbrev pub isZero : ℕ → Bool
 isZero n = eqb n 0
 
--- "Commands are one byte": task 01, policy 02, states 03, arc 04, end 05
-abbrev pub unknown : ℕ → Bool
-unknown c = not (between 1 c 5)
+-- "Commands are one byte": task 01, policy 02, states 03, arc 04, end 05, and lock 09 in an edition that has it
+abbrev pub unknown : Edition → ℕ → Bool
+unknown e c = not (between 1 c 5 || (e .locks && eqb c 9))
 
 -- "operands have fixed widths": the bytes of a command with its operands
 unfoldable pub width : Edition → ℕ → ℕ
@@ -73,11 +74,16 @@ width e c = cond (eqb c 1) (taskWidth e) (cond (eqb c 4) 4 (cond (eqb c 5) 1 2))
 unfoldable pub lastOperand : Edition → ℕ → List ℕ → ℕ
 lastOperand e c bs = number (map (λ i. getD bs i 0) (upFrom 2 (width e c - 3)))
 
--- whether a command may follow those read: tasks first, "one to four times", then policy, states, arcs and end
+-- some of the tasks is locked
+abbrev pub anyLocked : List Task → Bool
+anyLocked ts = any (λ t. t .locked) ts
+
+-- whether a command may follow those read: tasks first, "one to four times", then locks, "after the last task and before `02`", then policy,
+-- states, arcs and end
 unfoldable pub mayFollow : Reading → ℕ → Bool
 mayFollow r c =
-    cond (eqb c 1) (isZero (r .policy) && ltb (length (r .tasks)) maxTasks)
-    (cond (eqb c 2) (isZero (r .policy) && not (isZero (length (r .tasks))))
+    cond (eqb c 1) (isZero (r .policy) && ltb (length (r .tasks)) maxTasks && not (anyLocked (r .tasks)))
+    (cond (eqb c 2 || eqb c 9) (isZero (r .policy) && not (isZero (length (r .tasks))))
     (cond (eqb c 3) (not (isZero (r .policy)) && isZero (r .states))
     (not (isZero (r .states)))))
 
@@ -89,14 +95,15 @@ taskInRange e c d v = leb 1 c && leb c d && leb d (e .window) && between 1 v (e 
 unfoldable pub arcInRange : Reading → ℕ → ℕ → ℕ → Bool
 arcInRange r s l t = ltb s (r .states) && ltb l (2 ^ length (r .tasks)) && ltb t (r .states)
 
--- the operands x, y, z of the command c; "policy (1 to 4)", "M states (1 to 16)"
+-- the operands x, y, z of the command c; "policy (1 to 4)", "M states (1 to 16)"; of `09`, "a task that isn't there is 4"
 unfoldable pub inRange : Edition → Reading → ℕ → ℕ → ℕ → ℕ → Bool
 inRange e r c x y z =
     cond (eqb c 1) (taskInRange e x y z)
     (cond (eqb c 2) (between 1 x 4)
     (cond (eqb c 3) (between 1 x maxStates)
     (cond (eqb c 4) (arcInRange r x y z)
-    true)))
+    (cond (eqb c 9) (between 1 x (length (r .tasks)))
+    true))))
 
 -- the order of pairs (S, L)
 abbrev pub pairBelow : Arc → ℕ → ℕ → Bool
@@ -108,11 +115,16 @@ rising [] s l = true
 rising (a ∷ []) s l = pairBelow a s l
 rising (a ∷ b ∷ as′) s l = rising (b ∷ as′) s l
 
-abbrev pub pairRises : Reading → ℕ → ℕ → ℕ → Bool
-pairRises r c s l = cond (eqb c 4) (rising (r .arcs) s l) true
+-- "numbers rising": no task from the number i on is locked yet
+abbrev pub lockRises : List Task → ℕ → Bool
+lockRises ts i = not (anyLocked (drop (i - 1) ts))
+
+-- an arc's pair, or a lock's number, is above those before it; no other command has one
+abbrev pub rises : Reading → ℕ → ℕ → ℕ → Bool
+rises r c x y = cond (eqb c 4) (rising (r .arcs) x y) (cond (eqb c 9) (lockRises (r .tasks) x) true)
 
 -- The first fault by the tests' results, 0 for none: "3 (a byte after `05`), 2, 3 (may not follow, a fifth task), 1, 4, 3 (pairs)
--- are tried in turn".
+-- are tried in turn"; of `09`, "numbers not rising are 3 too but tried after 4".
 unfoldable pub firstFault : (ended unknown follows short ranged rises : Bool) → ℕ
 firstFault ended unknown follows short ranged rises =
     cond ended outOfPlace
@@ -126,12 +138,29 @@ firstFault ended unknown follows short ranged rises =
 -- the fault of the command c with operands x, y, z, where so many bytes are left from it on
 unfoldable pub fault : Edition → Reading → ℕ → ℕ → ℕ → ℕ → ℕ → ℕ
 fault e r left c x y z =
-    firstFault (r .ended) (unknown c) (mayFollow r c) (ltb left (width e c)) (inRange e r c x y z) (pairRises r c x y)
+    firstFault (r .ended) (unknown e c) (mayFollow r c) (ltb left (width e c)) (inRange e r c x y z) (rises r c x y)
+
+-- the same task, locked or not
+abbrev pub withLock : Bool → Task → Task
+withLock b t = record { work = t .work; window = t .window; value = t .value; locked = b }
+
+-- "`09` with a task number locks that task": the task at i, from 0
+abbrev pub lockAt : List Task → ℕ → List Task
+lockAt [] i = []
+lockAt (t ∷ ts) zero = withLock true t ∷ ts
+lockAt (t ∷ ts) (suc i) = t ∷ lockAt ts i
+
+-- the tasks once the command c with operands x, y, z is read: one more, or one of them locked
+abbrev pub tasksAfter : List Task → ℕ → ℕ → ℕ → ℕ → List Task
+tasksAfter ts c x y z =
+    cond (eqb c 1) (ts ++ (record { work = x; window = y; value = z; locked = false } ∷ []))
+    (cond (eqb c 9) (lockAt ts (x - 1))
+    ts)
 
 -- what is read once the command c with operands x, y, z is
 unfoldable pub after : Reading → ℕ → ℕ → ℕ → ℕ → Reading
 after r c x y z = record {
-  tasks = cond (eqb c 1) (r .tasks ++ (record { work = x; window = y; value = z } ∷ [])) (r .tasks);
+  tasks = tasksAfter (r .tasks) c x y z;
   policy = cond (eqb c 2) x (r .policy);
   states = cond (eqb c 3) x (r .states);
   arcs = cond (eqb c 4) (r .arcs ++ (record { from = x; label = y; to = z } ∷ [])) (r .arcs);

@@ -1,6 +1,7 @@
 -- Plans that are written: the bytes of a plan, and the arcs of an automaton.
 use mathlib.Core.Path.{_≡_}
-use Prim.Native.Nat.{ℕ, _^_, _≤_, _<_}
+use Prim.Native.Nat.{ℕ, suc, _^_, _≤_, _<_}
+use mathlib.Core.Bool.{cond}
 use mathlib.Core.List.{List, [], _∷_, _++_}
 use mathlib.Core.Option.{Option, none, some}
 use lib.ListN.{length, getD}
@@ -15,14 +16,21 @@ use Rattle.model.specs.Plan.{Task, Arc, Plan, sound, readPlan, readPlanI
 abbrev pub taskBytes : Edition → Task → List ℕ
 taskBytes e t = 0x01 ∷ t .work ∷ t .window ∷ bytes (e .valueWidth) (t .value)
 
+-- "command `09` with a task number locks that task", "numbers rising": of the tasks from number i on
+abbrev pub lockBytes : List Task → ℕ → List ℕ
+lockBytes [] i = []
+lockBytes (t ∷ ts) i = cond (t .locked) (0x09 ∷ i ∷ []) [] ++ lockBytes ts (suc i)
+
 -- "`04` S L T"
 abbrev pub arcBytes : Arc → List ℕ
 arcBytes a = 0x04 ∷ a .from ∷ a .label ∷ a .to ∷ []
 
--- "`01` C D V .., one to four times ..; `02` policy ..; `03` M states ..; `04` S L T, any number ..; `05` end"
+-- "`01` C D V .., one to four times ..; `02` policy ..; `03` M states ..; `04` S L T, any number ..; `05` end", and `09` "after the last
+-- task and before `02`": "A plan written from another keeps its locks"
 unfoldable pub planBytesIn : Edition → Plan → List ℕ
 planBytesIn e P =
-    flatMap (taskBytes e) (P .tasks) ++ 0x02 ∷ P .policy ∷ 0x03 ∷ P .states ∷ (flatMap arcBytes (P .arcs) ++ (0x05 ∷ []))
+    flatMap (taskBytes e) (P .tasks)
+    ++ (lockBytes (P .tasks) 1 ++ 0x02 ∷ P .policy ∷ 0x03 ∷ P .states ∷ (flatMap arcBytes (P .arcs) ++ (0x05 ∷ [])))
 
 abbrev pub planBytes : Plan → List ℕ
 planBytes P = planBytesIn longReads P

@@ -11,7 +11,7 @@ bytesEnd = 1
 abbrev pub unknownCommand : ℕ
 unknownCommand = 2
 
--- 3, a command that may not follow here, a fifth task, pairs not rising, any byte at all after `05`
+-- 3, a command that may not follow here, a fifth task, pairs or locks not rising, any byte at all after `05`
 abbrev pub outOfPlace : ℕ
 outOfPlace = 3
 
@@ -71,6 +71,6 @@ badGap = 14
 abbrev pub tooManyPairs : ℕ
 tooManyPairs = 15
 
--- 16, a D above 8 or a V above 255 on the way back to the first edition
+-- 16, a D above 8, a V above 255 or a lock on the way back to the first edition
 abbrev pub notInFirst : ℕ
 notInFirst = 16

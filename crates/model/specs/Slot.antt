@@ -15,7 +15,7 @@ pub record Job : Type 0 where
   pub left : ℕ
 
 abbrev pub noTask : Task
-noTask = record { work = 0; window = 0; value = 0 }
+noTask = record { work = 0; window = 0; value = 0; locked = false }
 
 -- "tasks numbered from 1"
 abbrev pub taskOf : List Task → ℕ → Task
@@ -45,12 +45,27 @@ abbrev pub releaseSlot : List Task → Job → ℕ
 releaseSlot ts j = longAgo - (taskOf ts (j .task) .window - j .left)
 
 -- "EDF (slots left, task); SRT (work remaining, task, slots left); FIFO (release slot, task); SP (task, slots left)"
-unfoldable pub key : List Task → ℕ → Job → List ℕ
-key ts policy j =
+unfoldable pub policyKey : List Task → ℕ → Job → List ℕ
+policyKey ts policy j =
     cond (eqb policy edf) (j .left ∷ j .task ∷ [])
     (cond (eqb policy srt) (j .work ∷ j .task ∷ j .left ∷ [])
     (cond (eqb policy fifo) (releaseSlot ts j ∷ j .task ∷ [])
     (j .task ∷ j .left ∷ [])))
+
+abbrev pub unfinished : Job → Bool
+unfinished j = ltb 0 (j .work)
+
+-- it has run: a job joins with C slots of work
+abbrev pub begun : List Task → Job → Bool
+begun ts j = ltb (j .work) (taskOf ts (j .task) .work)
+
+-- "a locked job that has begun and is unfinished"
+abbrev pub held : List Task → Job → Bool
+held ts j = taskOf ts (j .task) .locked && begun ts j && unfinished j
+
+-- "Under every policy a locked job that has begun and is unfinished runs before all others": the others by the policy's key
+unfoldable pub key : List Task → ℕ → Job → List ℕ
+key ts policy j = cond (held ts j) 0 1 ∷ policyKey ts policy j
 
 -- "smallest first": the order of keys, part by part
 abbrev pub keyBelow : List ℕ → List ℕ → Bool
@@ -90,9 +105,6 @@ worked chosen j = record { task = j .task; work = cond (isJob chosen j) (j .work
 abbrev pub tick : Job → Job
 tick j = record { task = j .task; work = j .work; left = j .left - 1 }
 
-abbrev pub unfinished : Job → Bool
-unfinished j = ltb 0 (j .work)
-
 abbrev pub stays : Job → Bool
 stays j = unfinished j && ltb 0 (j .left)
 
@@ -115,11 +127,11 @@ runFirst ts js (some chosen) = record {
 unfoldable pub ready : Plan → List Job → ℕ → List Job
 ready P js l = js ++ newJobs (P .tasks) l 1
 
--- the key of a job by the plan's policy
+-- the key of a job by the plan's locks and policy
 abbrev pub keyOf : Plan → Job → List ℕ
 keyOf P j = key (P .tasks) (P .policy) j
 
--- 3. "If any job is left, the first by the policy's key runs one slot."
+-- 3. "If any job is left, the first by the policy's key runs one slot", a held one "before all others".
 abbrev pub chosenIn : Plan → List Job → ℕ → Option Job
 chosenIn P js l = first (keyOf P) (ready P js l)
 

@@ -49,7 +49,7 @@ impl Node {
 
     pub const CERTIFICATE_ROOM: usize = 19471;
 
-    pub const PLAN_ROOM: usize = 1049;
+    pub const PLAN_ROOM: usize = 1057;
 
     pub const FIRST_PLAN_ROOM: usize = 1045;
 
@@ -75,12 +75,14 @@ impl Node {
     }
 }
 
-// An edition of plan and certificate bytes: the longest window, the largest value, the bytes of a value and those of a mask.
+// An edition of plan and certificate bytes: the longest window, the largest value, the bytes of a value and those of a mask, and whether
+// it has locks.
 pub struct Edition {
     pub window: u8,
     pub value: u16,
     pub value_width: usize,
     pub mask_width: usize,
+    pub locks: bool,
 }
 
 impl Edition {
@@ -96,6 +98,7 @@ impl Edition {
             value: 255,
             value_width: 1,
             mask_width: 1,
+            locks: false,
         }
     }
 
@@ -108,6 +111,7 @@ impl Edition {
             value: Node::MAX_VALUE,
             value_width: 2,
             mask_width: Edition::MASK_WIDTH,
+            locks: true,
         }
     }
 }

@@ -2,16 +2,17 @@
 -- Assumes nothing.
 use mathlib.Core.Path.{_≡_, refl, sym, ap, ap₂, _∙_, subst}
 use mathlib.Core.Bool.{true, false}
+use mathlib.Core.Logic.{inl, inr, ⊎-elim}
 use mathlib.Core.List.{List, [], _++_}
 use Prim.Native.Nat.{ℕ, zero, suc, _+_, _-_, _≤_, _<_}
 use native.Mathlib.Nat.{lt-of-lt-of-le}
 use native.Mathlib.Omega.{arith}
-use borrow.Author.Tests.{leb-true}
+use borrow.Author.Tests.{ltb-true, leb-true}
 use lib.ListN.{length, getD, drop, replicate, length-replicate, drop-of-length-le}
 use Rattle.model.specs.Edition.{Edition}
 use Rattle.model.specs.Limits.{maxTasks}
 use Rattle.model.specs.Plan as model
-use Rattle.model.proofs.Plan.{Passes, fault-none, readFrom-at, readFrom-nil, task-follows, states-ranged, arc-ranged}
+use Rattle.model.proofs.Plan.{Passes, fault-none, readFrom-at, readFrom-nil, known-is, task-follows, states-ranged, lock-ranged, arc-ranged}
 use Rattle.plan.specs.declared.Reading.{Reading}
 use Rattle.plan.specs.declared.Fault.{Fault}
 use Rattle.plan.specs.declared.Fault.the-variants.{BytesEnd, UnknownCommand, OutOfPlace, OutOfRange}
@@ -20,8 +21,8 @@ use Rattle.plan.specs.declared.Outcome.the-variants.{Sound, Faulty}
 use Rattle.plan.specs.declared.PlanRead.{PlanRead}
 use Rattle.plan.specs.declared.Task.{Task}
 use Rattle.model.proofs.Lists.{getD-default}
-use Rattle.plan.specs.View.{faultNumber, checkNumber, emptyTask, readingOf, nothingRead, emptyTable, answerOf, answered, refusal, FaultAlone, Sized, arcsIn, arcsBelow, arcAt, pairCount, Within, Holds, Readable, ReadableArc, Reads}
-use Rattle.plan.proofs.View.{task-count, label-low, least-rises}
+use Rattle.plan.specs.View.{faultNumber, checkNumber, emptyTask, tasksOf, readingOf, nothingRead, emptyTable, answerOf, answered, refusal, FaultAlone, Sized, arcsIn, arcsBelow, arcAt, pairCount, Within, Holds, Readable, ReadableArc, Reads}
+use Rattle.plan.proofs.View.{task-count, label-low, lock-rises, least-rises}
 
 -- the bytes before a place have been read
 pub record Reached (e : Edition) (s next : List ℕ) (r : Reading) (at : ℕ) : Type 0 where
@@ -52,6 +53,11 @@ nothing-within = record {
   fits = omega arith;
   room = length-replicate {A = Task} maxTasks emptyTask;
   spare = λ k h. getD-default maxTasks k emptyTask;
+  locks = record {
+    within = omega arith;
+    above = λ k h. ap (λ (t : Task). t .locked) (getD-default maxTasks k emptyTask);
+    below = λ m f. absurd (omega arith);
+  };
   states = omega arith;
 }
 
@@ -126,6 +132,14 @@ module _ (e : Edition) (s next : List ℕ) (r : Reading) (at : ℕ) (h : Reached
   passes : 0 ≡ faultHere → Passes e (readingOf r (arcsIn next)) (getD s at 0) (getD s (at + 1) 0) (getD s (at + 2) 0) lastHere
   passes is = fault-none e (readingOf r (arcsIn next)) (length s - at) _ _ _ _ (sym is) .0
 
+  -- a lock without a fault is above the last one
+  lock-above : 0 ≡ faultHere → getD s at 0 ≡ 9 → (r .lock < getD s (at + 1) 0) × (getD s (at + 1) 0 ≤ r .count)
+  lock-above is k =
+      let p = passes is in
+      let t = lock-ranged e _ _ _ _ _ k (p .ranged) in
+      let rises : model.lockRises (tasksOf (r .tasks) (r .count)) (getD s (at + 1) 0) ≡ true = simp k at (p .above) in
+      (ltb-true _ _ (sym (lock-rises r (h .within) _ (t .0)) ∙ rises), omega (arith, t .1, task-count r (h .within)))
+
   -- a command without a fault may be read
   pub readable : 0 ≡ faultHere → Readable r (getD s at 0) (getD s (at + 1) 0)
   readable is =
@@ -133,9 +147,10 @@ module _ (e : Edition) (s next : List ℕ) (r : Reading) (at : ℕ) (h : Reached
       record {
         within = h .within;
         going = p .going;
-        known = p .known;
+        known = ⊎-elim inl (λ k. inr (k .0)) (known-is e (getD s at 0) (p .known));
         room = λ k. subst (λ (n : ℕ). n < maxTasks) (task-count r (h .within)) (task-follows _ _ k (p .follows));
         states = λ k. states-ranged e _ _ _ _ _ k (p .ranged);
+        lock = lock-above is;
       }
 
   pub readable-arc : 0 ≡ faultHere → getD s at 0 ≡ 4 → ReadableArc r next (getD s (at + 1) 0) (getD s (at + 2) 0) lastHere
@@ -143,7 +158,7 @@ module _ (e : Edition) (s next : List ℕ) (r : Reading) (at : ℕ) (h : Reached
       let p = passes is in
       let t = arc-ranged e _ _ _ _ _ k (p .ranged) in
       let low = label-low e r (arcsIn next) _ _ _ _ (h .within) (p .ranged) k in
-      let rises : model.rising (arcsIn next) (getD s (at + 1) 0) (getD s (at + 2) 0) ≡ true = simp k at (p .rises) in
+      let rises : model.rising (arcsIn next) (getD s (at + 1) 0) (getD s (at + 2) 0) ≡ true = simp k at (p .above) in
       record {
         within = h .within;
         going = p .going;

@@ -39,10 +39,10 @@ checkNumber (Faulty f) = faultNumber f
 
 -- what stands past the tasks given
 abbrev pub emptyTask : Task
-emptyTask = record { work = 0; window = 0; value = 0 }
+emptyTask = record { work = 0; window = 0; value = 0; locked = false }
 
 abbrev pub taskView : Task → model.Task
-taskView t = record { work = t .work; window = t .window; value = t .value }
+taskView t = record { work = t .work; window = t .window; value = t .value; locked = t .locked }
 
 abbrev pub tasksOf : List Task → ℕ → List model.Task
 tasksOf ts n = map taskView (take n ts)
@@ -90,21 +90,21 @@ readingOf r arcs = record { tasks = tasksOf (r .tasks) (r .count); policy = r .p
 
 -- before the first command
 abbrev pub nothingRead : Reading
-nothingRead = record { tasks = replicate maxTasks emptyTask; count = 0; policy = 0; states = 0; least = 0; ended = false }
+nothingRead = record { tasks = replicate maxTasks emptyTask; count = 0; lock = 0; policy = 0; states = 0; least = 0; ended = false }
 
 -- a table without an arc
 abbrev pub emptyTable : List ℕ
 emptyTable = replicate pairCount 0
 
--- whether an arc's pair is the least one that rises or above it; no other command has one
-abbrev pub fromLeast : ℕ → ℕ → ℕ → ℕ → Bool
-fromLeast least c s l = cond (eqb c 4) (leb least (s * labelCount + l)) true
+-- whether an arc's pair is the least one that rises or above it, and a lock's number above the last one; no other command has one
+abbrev pub risesIn : Reading → ℕ → ℕ → ℕ → Bool
+risesIn r c x y = cond (eqb c 4) (leb (r .least) (x * labelCount + y)) (cond (eqb c 9) (ltb (r .lock) x) true)
 
--- the fault of a command, by the least pair that rises instead of the arcs
-abbrev pub faultFromLeast : Edition → Reading → ℕ → ℕ → ℕ → ℕ → ℕ → ℕ
-faultFromLeast e r left c x y z =
-    model.firstFault (r .ended) (model.unknown c) (model.mayFollow (readingOf r []) c) (ltb left (model.width e c))
-    (model.inRange e (readingOf r []) c x y z) (fromLeast (r .least) c x y)
+-- the fault of a command, by the least pair that rises instead of the arcs, and by the last lock instead of the tasks
+abbrev pub faultIn : Edition → Reading → ℕ → ℕ → ℕ → ℕ → ℕ → ℕ
+faultIn e r left c x y z =
+    model.firstFault (r .ended) (model.unknown e c) (model.mayFollow (readingOf r []) c) (ltb left (model.width e c))
+    (model.inRange e (readingOf r []) c x y z) (risesIn r c x y)
 
 -- the answer of an outcome, where a plan without a fault is this one
 abbrev pub answerWith : Outcome → model.Plan → model.PlanAnswer
@@ -135,11 +135,18 @@ pub record Sized (p : Plan) : Type 0 where
   pub spare : (k : ℕ) → p .count ≤ k → getD (p .tasks) k emptyTask ≡ emptyTask
   pub table : length (p .next) ≡ pairCount
 
--- the counts are within their limits, and no task stands past the count
+-- no task from the place `lock` on is locked, and the one before it is
+pub record Locks (ts : List Task) (count lock : ℕ) : Type 0 where
+  pub within : lock ≤ count
+  pub above : (k : ℕ) → lock ≤ k → getD ts k emptyTask .locked ≡ false
+  pub below : (m : ℕ) → lock ≡ suc m → getD ts m emptyTask .locked ≡ true
+
+-- the counts are within their limits, no task stands past the count, and the last lock is the tasks'
 pub record Within (r : Reading) : Type 0 where
   pub fits : r .count ≤ maxTasks
   pub room : length (r .tasks) ≡ maxTasks
   pub spare : (k : ℕ) → r .count ≤ k → getD (r .tasks) k emptyTask ≡ emptyTask
+  pub locks : Locks (r .tasks) (r .count) (r .lock)
   pub states : r .states ≤ maxStates
 
 -- the table has no arc from the least pair on, and one just below it
@@ -153,9 +160,10 @@ pub record Holds (next : List ℕ) (least : ℕ) : Type 0 where
 pub record Readable (r : Reading) (c x : ℕ) : Type 0 where
   pub within : Within r
   pub going : r .ended ≡ false
-  pub known : model.unknown c ≡ false
+  pub known : ((1 ≤ c) × (c ≤ 5)) ⊎ (c ≡ 9)
   pub room : c ≡ 1 → r .count < maxTasks
   pub states : c ≡ 3 → x ≤ maxStates
+  pub lock : c ≡ 9 → (r .lock < x) × (x ≤ r .count)
 
 -- an arc that may be read
 pub record ReadableArc (r : Reading) (next : List ℕ) (s l t : ℕ) : Type 0 where

@@ -2,17 +2,18 @@
 use node::Edition;
 use node::Node;
 ghost use mathlib.Core.Path.{_≡_};
-ghost use Prim.Native.Nat.{_+_, _*_, _^_, _<_, _≤_};
+ghost use mathlib.Core.Bool.{not};
+ghost use Prim.Native.Nat.{ℕ, _+_, _*_, _^_, _<_, _≤_};
 ghost use mathlib.Core.List.{[]};
 ghost use lib.ListN.{length, getD, drop};
 ghost use mathlib.Core.List.{map};
 ghost use mathlib.Core.Logic.{_⊎_};
 ghost use Rattle.model.specs.Bytes.{number};
 ghost use Rattle.model.specs.Lists.{upFrom};
-ghost use Rattle.model.specs.Plan.{nextIn, width, lastOperand, mayFollow, between, taskInRange, arcInRange, inRange, firstFault, readPlan, readPlanIn};
+ghost use Rattle.model.specs.Plan.{nextIn, unknown, width, lastOperand, mayFollow, between, taskInRange, arcInRange, inRange, firstFault, readPlan, readPlanIn};
 ghost use Rattle.node.specs.Edition.{editionOf};
 ghost use Rattle.model.specs.Limits.{maxTasks, maxStates};
-ghost use Rattle.plan.specs.View.{faultNumber, checkNumber, answerOf, readingOf, nothingRead, emptyTable, arcsIn, nextOf, labelCount, fromLeast, faultFromLeast, answered, refusal, FaultAlone, Sized, Legible, Within, Holds, Readable, ReadableArc, Reads, ReadsAside};
+ghost use Rattle.plan.specs.View.{faultNumber, checkNumber, answerOf, readingOf, nothingRead, emptyTable, arcsIn, nextOf, labelCount, risesIn, faultIn, answered, refusal, FaultAlone, Sized, Legible, Within, Holds, Readable, ReadableArc, Reads, ReadsAside};
 
 const MAX_TASKS: usize = Node::MAX_TASKS;
 
@@ -27,6 +28,7 @@ pub struct Task {
     pub work: u8,
     pub window: u8,
     pub value: u16,
+    pub locked: bool,
 }
 
 // A sound plan: the first `count` tasks, the policy, the number of states, and for the state S and the
@@ -73,11 +75,13 @@ pub struct PlanRead {
     pub plan: Plan,
 }
 
-// What the commands read so far say. The first `count` tasks are given, the others are 0; 0 stands for a policy or a
-// number of states not given yet; the next arc's 16 S + L must be `least` or more.
+// What the commands read so far say. The first `count` tasks are given, the others are 0; `lock` is the number of the last
+// task locked, 0 for none; 0 stands for a policy or a number of states not given yet; the next arc's 16 S + L must be
+// `least` or more.
 struct Reading {
     tasks: [Task; MAX_TASKS],
     count: usize,
+    lock: u8,
     policy: u8,
     states: u8,
     least: usize,
@@ -137,13 +141,16 @@ fn may_follow(r: Reading, c: u8) -> bool
     let policy = r.policy;
     let states = r.states;
     let count = r.count;
+    let lock = r.lock;
     match c {
-        1 => if policy == 0 {
-            count < MAX_TASKS
-        } else {
+        1 => if policy != 0 {
             false
+        } else if lock != 0 {
+            false
+        } else {
+            count < MAX_TASKS
         },
-        2 => if policy == 0 { count != 0 } else { false },
+        2 | 9 => if policy == 0 { count != 0 } else { false },
         3 => if policy == 0 { false } else { states == 0 },
         _ => states != 0,
     }
@@ -211,6 +218,7 @@ fn in_range(edition: Edition, r: Reading, c: u8, x: u8, y: u8, z: u16) -> bool
         2 => up_to(x, Node::SP),
         3 => up_to(x, MAX_STATES),
         4 => arc_in_range(r, x, y, z),
+        9 => up_to(x, r.count as u8),
         _ => true,
     }
 }
@@ -234,11 +242,28 @@ pub fn next_state(next: &[u8; PAIRS], s: u8, l: u8) -> u8
     next[at]
 }
 
-// Whether an arc's pair rises above those before it; no other command has one.
-fn pair_rises(r: Reading, c: u8, s: u8, l: u8) -> bool
-    ensures { λ b. ⌜ b ≡ fromLeast (r .least) c s l ⌝ }
+// Whether an arc's pair or a lock's number is above those before it; no other command has one.
+fn rises(r: Reading, c: u8, x: u8, y: u8) -> bool
+    ensures { λ b. ⌜ b ≡ risesIn r c x y ⌝ }
 {
-    if c == 4 { r.least <= pair(s, l) } else { true }
+    match c {
+        4 => r.least <= pair(x, y),
+        9 => r.lock < x,
+        _ => true,
+    }
+}
+
+// Whether an edition has a command.
+fn is_known(edition: Edition, c: u8) -> bool
+    ensures { λ b. ⌜ not b ≡ unknown (editionOf edition) c ⌝ }
+{
+    if up_to(c, 5) {
+        return true;
+    }
+    if c != 9 {
+        return false;
+    }
+    edition.locks
 }
 
 // The first fault by the tests' results.
@@ -276,15 +301,15 @@ fn first_fault(
 // The fault of a command with `left` bytes from it on.
 fn fault_of(edition: Edition, r: Reading, left: usize, c: u8, x: u8, y: u8, z: u16) -> Outcome
     requires { ⌜ Legible edition × Within r ⌝ }
-    ensures { λ o. ⌜ checkNumber o ≡ faultFromLeast (editionOf edition) r left c x y z ⌝ }
+    ensures { λ o. ⌜ checkNumber o ≡ faultIn (editionOf edition) r left c x y z ⌝ }
 {
     let ended = r.ended;
-    let unknown = !up_to(c, 5);
+    let unknown = !is_known(edition, c);
     let follows = may_follow(r, c);
     let short = left < width_of(edition, c);
     let ranged = in_range(edition, r, c, x, y, z);
-    let rises = pair_rises(r, c, x, y);
-    first_fault(ended, unknown, follows, short, ranged, rises)
+    let above = rises(r, c, x, y);
+    first_fault(ended, unknown, follows, short, ranged, above)
 }
 
 // One more task.
@@ -298,8 +323,28 @@ fn with_task(r: Reading, c: u8, d: u8, v: u16) -> Reading
         work: c,
         window: d,
         value: v,
+        locked: false,
     };
     n.count = at + 1;
+    n
+}
+
+// The task i, from 1, is locked.
+fn with_lock(r: Reading, i: u8) -> Reading
+    requires { ⌜ Readable r 9 i ⌝ }
+    ensures { λ n. ⌜ ((y z : ℕ) → ReadsAside r n 9 i y z) ⌝ }
+{
+    let at = i as usize - 1;
+    let tasks = r.tasks;
+    let task = tasks[at];
+    let mut n = r;
+    n.tasks[at] = Task {
+        work: task.work,
+        window: task.window,
+        value: task.value,
+        locked: true,
+    };
+    n.lock = i;
     n
 }
 
@@ -319,6 +364,9 @@ fn with_command(r: Reading, c: u8, x: u8, y: u8, z: u16) -> Reading
     if c == 3 {
         n.states = x;
         return n;
+    }
+    if c == 9 {
+        return with_lock(r, x);
     }
     n.ended = true;
     n
@@ -355,10 +403,12 @@ fn nothing_read() -> Reading
         work: 0,
         window: 0,
         value: 0,
+        locked: false,
     };
     Reading {
         tasks: [none; MAX_TASKS],
         count: 0,
+        lock: 0,
         policy: 0,
         states: 0,
         least: 0,

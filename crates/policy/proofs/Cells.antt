@@ -41,7 +41,7 @@ pub jobs-sized : (ts : Tasks) (n : ℕ) (cells : List ℕ) → length cells ≡ 
 unfolding jobsOf
 jobs-sized ts n cells e = ap (λ m. flatMap (λ k. jobsIn ts k (getD cells k 0)) (upFrom 0 m)) e
 
-jobs-table : (ts : Tasks) (f : ℕ → ℕ) (n : ℕ) → jobsOf ts (map f (upFrom 0 n)) ≡ flatMap (λ k. jobsIn ts k (f k)) (upFrom 0 n)
+pub jobs-table : (ts : Tasks) (f : ℕ → ℕ) (n : ℕ) → jobsOf ts (map f (upFrom 0 n)) ≡ flatMap (λ k. jobsIn ts k (f k)) (upFrom 0 n)
 jobs-table ts f n =
     jobs-sized ts n (map f (upFrom 0 n)) (length-table f n)
     ∙ flatMap-same (λ k. jobsIn ts k (getD (map f (upFrom 0 n)) k 0)) (λ k. jobsIn ts k (f k)) (upFrom 0 n)
@@ -66,14 +66,14 @@ cells-sized ts n cells e h = record { size = e; work = λ k. both k .0; left = �
     both : (k : ℕ) → FitCell ts k (getD cells k 0)
     both k = go k (ltb k n) refl
 
-cells-table : (ts : Tasks) (f : ℕ → ℕ) (n : ℕ) → ((k : ℕ) → k < n → FitCell ts k (f k)) → Cells ts n (map f (upFrom 0 n))
+pub cells-table : (ts : Tasks) (f : ℕ → ℕ) (n : ℕ) → ((k : ℕ) → k < n → FitCell ts k (f k)) → Cells ts n (map f (upFrom 0 n))
 cells-table ts f n h =
     cells-sized ts n (map f (upFrom 0 n)) (length-table f n)
     (λ k lt. subst (FitCell ts k) (sym (getD-table f n k 0 lt)) (h k lt))
 
 -- the slots left in a cell by the table
-pub left-entry : (ts : Tasks) (left : List ℕ) → left ≡ leftTable ts → (k : ℕ) → k < slotCells → getD left k 0 ≡ leftIn ts k
-left-entry ts left e k lt = ap (λ l. getD l k 0) e ∙ getD-table (leftIn ts) slotCells k 0 lt
+pub cell-entry : (f : ℕ → ℕ) (table : List ℕ) → table ≡ map f (upFrom 0 slotCells) → (k : ℕ) → k < slotCells → getD table k 0 ≡ f k
+cell-entry f table e k lt = ap (λ l. getD l k 0) e ∙ getD-table f slotCells k 0 lt
 
 -- cells of no jobs
 pub empty-jobs : (ts : Tasks) (n : ℕ) → jobsOf ts (replicate n 0) ≡ []
@@ -137,7 +137,7 @@ module _ (ts : Tasks) (r : TasksInRange ts) (left : List ℕ) (e : left ≡ left
   aged-in : (k : ℕ) → k < cellCount → jobsIn ts k (agedIn k) ≡ after (k + maxTasks)
   unfolding agedIn after
   aged-in k lt =
-      ap (λ l. jobsIn ts k (cond (ltb 1 l) (getD cells (k + maxTasks) 0) 0)) (left-entry ts left e (k + maxTasks) (omega arith))
+      ap (λ l. jobsIn ts k (cond (ltb 1 l) (getD cells (k + maxTasks) 0) 0)) (cell-entry (leftIn ts) left e (k + maxTasks) (omega arith))
       ∙ sym (aged-cell ts k (getD cells (k + maxTasks) 0) lt)
 
   aged-jobs : jobsOf ts (aged cells left) ≡ keep stays (map tick (jobsOf ts cells))
@@ -164,7 +164,7 @@ module _ (ts : Tasks) (r : TasksInRange ts) (left : List ℕ) (e : left ≡ left
       go : (k : ℕ) → k < cellCount → (b : Bool) → ltb 1 (getD left (k + maxTasks) 0) ≡ b → FitCell ts k (cond b (getD cells (k + maxTasks) 0) 0)
       go k lt true p = (
         omega (arith, h .work (k + maxTasks), ap (λ (t : Task). t .work) (same-task ts k)),
-        λ _. omega (arith, left-falls ts k lt, left-entry ts left e (k + maxTasks) (omega arith), ltb-true 1 (getD left (k + maxTasks) 0) p),
+        λ _. omega (arith, left-falls ts k lt, cell-entry (leftIn ts) left e (k + maxTasks) (omega arith), ltb-true 1 (getD left (k + maxTasks) 0) p),
       )
       go k lt false p = (omega arith, λ q. absurd (omega arith))
 

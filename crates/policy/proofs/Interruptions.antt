@@ -24,7 +24,8 @@ use Rattle.policy.specs.declared.Done.{Done}
 use Rattle.policy.specs.View.{Tasks, cellCount, slotCells, taskIn, leftIn, jobIn, jobsOf, TasksInRange, Cells, joinedCells, taskNumber, displacedTask, tasksIn, Ruled, ranIn, Slotted}
 use Rattle.policy.proofs.Canonical.{job-cell, cell-job}
 use Rattle.policy.proofs.Cells.{window-low, left-falls, one-cell}
-use Rattle.policy.proofs.Keys.{choiceIn, first-cell}
+use Rattle.policy.proofs.Keys.{choiceIn}
+use Rattle.policy.proofs.Held.{chosen-cell}
 use Rattle.policy.proofs.NewJobs.{joined-leaves}
 
 module _ (ts : Tasks) (r : TasksInRange ts) (cells : List ℕ) (h : Cells ts cellCount cells) (ran : ℕ) (lt : ran < slotCells) where
@@ -152,7 +153,7 @@ module _ (r : Rules) (ruled : Ruled r) (cells : List ℕ) (h : Cells (tasksIn r)
       let entered = joined-leaves ts cells label (ruled .tasks) h refl in
       (λ i. first (key (same i) (by i)) (jobsOf ts cells ++ newJobs (same i) label 1))
       ∙ ap (first (key ts (r .policy))) (sym (entered .jobs))
-      ∙ sym (first-cell ts (r .policy) (ruled .tasks) (r .left) (ruled .left) joined (entered .cells) (slotted .ran) .choice)
+      ∙ sym (chosen-cell ts (r .hold) (ruled .hold) joined (entered .cells) (r .policy) (ruled .tasks) (r .left) (ruled .left) (slotted .ran) .choice)
 
   pub row-shown : (ran : ℕ) → rowOf P (ranIn ts ran) (jobsOf ts cells) label ≡ record { ran = taskNumber (d .ran); gain = d .gain; cut = displacedTask cells ran (d .ran) }
   row-shown ran = λ i. record { ran = task i; gain = sym (slotted .rule P same by) i .gain; cut = cut i }

@@ -15,10 +15,10 @@ use lib.ListN.{getD}
 use Rattle.model.specs.Limits.{maxTasks, maxWindow}
 use Rattle.model.specs.Lists.{consIf, flatMap, upFrom}
 use Rattle.model.specs.Plan.{Task}
-use Rattle.model.specs.Slot.{Job, noTask, taskOf, releaseSlot, longAgo, edf, srt, fifo, key, keyBelow, sooner, first}
+use Rattle.model.specs.Slot.{Job, noTask, taskOf, releaseSlot, longAgo, edf, srt, fifo, policyKey, keyBelow, sooner, first}
 use Rattle.model.proofs.Lists.{flatMap-append, upFrom-append}
 use Rattle.policy.specs.View.{Tasks, slotCells, taskIn, taskAt, ageIn, leftIn, leftTable, jobIn, jobsIn, jobsOf, TasksInRange, Cells, keyNumber, keyIn, codeIn, codeAt, leastCode, cellOf, firstCell, places, noCode}
-use Rattle.policy.proofs.Cells.{jobs-sized, window-low, work-within, left-entry}
+use Rattle.policy.proofs.Cells.{jobs-sized, window-low, work-within, cell-entry}
 
 -- keys' first parts as digits above what is left
 digit-order : (b x y p q : ℕ) (xs ys : List ℕ) → p < b → q < b → keyBelow xs ys ≡ ltb p q
@@ -83,9 +83,9 @@ released ts k w h = omega (arith, ap (λ (t : Task). t .window) (task-number ts 
 
 module _ (ts : Tasks) (policy k i w w′ : ℕ) (lt : i < k) (hk : k < places) (lk : leftIn ts k ≤ maxWindow) (li : leftIn ts i ≤ maxWindow)
     (pk : 0 < leftIn ts k) (pi : 0 < leftIn ts i) where
-  key-order : keyBelow (key ts policy (jobIn ts k w)) (key ts policy (jobIn ts i w′))
+  key-order : keyBelow (policyKey ts policy (jobIn ts k w)) (policyKey ts policy (jobIn ts i w′))
       ≡ ltb (keyIn policy k w (leftIn ts k) * places + k) (keyIn policy i w′ (leftIn ts i) * places + i)
-  unfolding key keyIn
+  unfolding policyKey keyIn
   key-order = go (eqb policy edf) (eqb policy srt) (eqb policy fifo)
     where
       tk : taskIn k ≤ maxTasks
@@ -135,10 +135,10 @@ left-low ts r k = omega (arith, window-low ts r (k % maxTasks))
 abbrev pub choiceIn : Tasks → List ℕ → ℕ → Option Job
 choiceIn ts cells at = cond (ltb at slotCells) (some (jobIn ts at (getD cells at 0))) none
 
--- the cell at has the first job by the policy's key, if there is a job
-pub record Chosen (ts : Tasks) (policy : ℕ) (cells : List ℕ) (at : ℕ) : Type 0 where
+-- the cell at has the first job by the key, if there is a job
+pub record Chosen (ts : Tasks) (key : Job → List ℕ) (cells : List ℕ) (at : ℕ) : Type 0 where
   pub bound : at ≤ slotCells
-  pub choice : choiceIn ts cells at ≡ first (key ts policy) (jobsOf ts cells)
+  pub choice : choiceIn ts cells at ≡ first key (jobsOf ts cells)
   pub work : at < slotCells → 0 < getD cells at 0
 
 module _ (ts : Tasks) (policy : ℕ) (r : TasksInRange ts) (left : List ℕ) (e : left ≡ leftTable ts) (cells : List ℕ) (h : Cells ts slotCells cells) where
@@ -165,20 +165,20 @@ module _ (ts : Tasks) (policy : ℕ) (r : TasksInRange ts) (left : List ℕ) (e 
   best-none n best m lt (inr (i, li, p, e, f)) =
       inr (i, omega arith, p, rw (le-ltb noCode best (omega (arith, code-low i (omega arith)))) e, f)
 
-  best-some : (n best : ℕ) (m : Option Job) → n < slotCells → 0 < getD cells n 0 → Best n best m → Best (suc n) (cond (ltb (code n) best) (code n) best) (sooner (key ts policy) m (job n))
+  best-some : (n best : ℕ) (m : Option Job) → n < slotCells → 0 < getD cells n 0 → Best n best m → Best (suc n) (cond (ltb (code n) best) (code n) best) (sooner (policyKey ts policy) m (job n))
   unfolding Best code job
   best-some n best m lt p (inl e) =
-      inr (n, omega arith, p, ap (λ b. cond (ltb (code n) b) (code n) b) (e .0) ∙ rw (lt-ltb (code n) noCode (code-low n lt)), ap (λ o. sooner (key ts policy) o (job n)) (e .1))
+      inr (n, omega arith, p, ap (λ b. cond (ltb (code n) b) (code n) b) (e .0) ∙ rw (lt-ltb (code n) noCode (code-low n lt)), ap (λ o. sooner (policyKey ts policy) o (job n)) (e .1))
   best-some n best m lt p (inr (i, li, q, e, f)) = pick (ltb (code n) (code i)) refl
     where
-      order : keyBelow (key ts policy (job n)) (key ts policy (job i)) ≡ ltb (code n) (code i)
+      order : keyBelow (policyKey ts policy (job n)) (policyKey ts policy (job i)) ≡ ltb (code n) (code i)
       order = key-order ts policy n i (getD cells n 0) (getD cells i 0) li (omega arith) (left-low ts r n) (left-low ts r i) (h .left n p) (h .left i q)
 
-      pick : (b : Bool) → ltb (code n) (code i) ≡ b → Best (suc n) (cond (ltb (code n) best) (code n) best) (sooner (key ts policy) m (job n))
+      pick : (b : Bool) → ltb (code n) (code i) ≡ b → Best (suc n) (cond (ltb (code n) best) (code n) best) (sooner (policyKey ts policy) m (job n))
       pick true c =
-          inr (n, omega arith, p, ap (λ x. cond (ltb (code n) x) (code n) x) e ∙ rw c, ap (λ o. sooner (key ts policy) o (job n)) f ∙ ap (λ b. some (cond b (job n) (job i))) (order ∙ c))
+          inr (n, omega arith, p, ap (λ x. cond (ltb (code n) x) (code n) x) e ∙ rw c, ap (λ o. sooner (policyKey ts policy) o (job n)) f ∙ ap (λ b. some (cond b (job n) (job i))) (order ∙ c))
       pick false c =
-          inr (i, omega arith, q, ap (λ x. cond (ltb (code n) x) (code n) x) e ∙ rw c, ap (λ o. sooner (key ts policy) o (job n)) f ∙ ap (λ b. some (cond b (job n) (job i))) (order ∙ c))
+          inr (i, omega arith, q, ap (λ x. cond (ltb (code n) x) (code n) x) e ∙ rw c, ap (λ o. sooner (policyKey ts policy) o (job n)) f ∙ ap (λ b. some (cond b (job n) (job i))) (order ∙ c))
 
   -- the jobs of the first n cells
   upTo : ℕ → List Job
@@ -192,7 +192,7 @@ module _ (ts : Tasks) (policy : ℕ) (r : TasksInRange ts) (left : List ℕ) (e 
       ∙ ap (λ l. upTo n ++ l) (append-nil (jobsIn ts (0 + n) (getD cells (0 + n) 0)) ∙ ap (λ k. jobsIn ts k (getD cells k 0)) (zero-add n))
 
   firstTo : ℕ → Option Job
-  firstTo n = foldl (sooner (key ts policy)) none (upTo n)
+  firstTo n = foldl (sooner (policyKey ts policy)) none (upTo n)
 
   codes : ℕ → ℕ
   codes = codeAt policy cells left
@@ -204,23 +204,23 @@ module _ (ts : Tasks) (policy : ℕ) (r : TasksInRange ts) (left : List ℕ) (e 
   code-some : (k : ℕ) → k < slotCells → ltb 0 (getD cells k 0) ≡ true → codes k ≡ code k
   unfolding codes codeIn code
   code-some k lt c =
-      rw (ne-eqb (getD cells k 0) 0 (λ z. absurd (omega (arith, ltb-true 0 (getD cells k 0) c))), left-entry ts left e k lt)
+      rw (ne-eqb (getD cells k 0) 0 (λ z. absurd (omega (arith, ltb-true 0 (getD cells k 0) c))), cell-entry (leftIn ts) left e k lt)
 
   best-to : (n : ℕ) → n ≤ slotCells → Best n (leastCode codes n) (firstTo n)
   unfolding Best firstTo upTo leastCode job
   best-to zero le = inl (refl, refl)
   best-to (suc n) le =
       subst (Best (suc n) (leastCode codes (suc n)))
-      (sym (ap (foldl (sooner (key ts policy)) none) (up-suc n) ∙ foldl-append (sooner (key ts policy)) none (upTo n) (jobsIn ts n (getD cells n 0))))
+      (sym (ap (foldl (sooner (policyKey ts policy)) none) (up-suc n) ∙ foldl-append (sooner (policyKey ts policy)) none (upTo n) (jobsIn ts n (getD cells n 0))))
       (go (ltb 0 (getD cells n 0)) refl (best-to n (omega arith)))
     where
       go : (b : Bool) → ltb 0 (getD cells n 0) ≡ b → Best n (leastCode codes n) (firstTo n)
-          → Best (suc n) (cond (ltb (codes n) (leastCode codes n)) (codes n) (leastCode codes n)) (foldl (sooner (key ts policy)) (firstTo n) (consIf b (job n) []))
+          → Best (suc n) (cond (ltb (codes n) (leastCode codes n)) (codes n) (leastCode codes n)) (foldl (sooner (policyKey ts policy)) (firstTo n) (consIf b (job n) []))
       go true c s = rw (code-some n le c) (best-some n (leastCode codes n) (firstTo n) le (ltb-true 0 (getD cells n 0) c) s)
       go false c s = rw (code-none n c) (best-none n (leastCode codes n) (firstTo n) le s)
 
   -- what the least code says of the first job
-  told : (best : ℕ) → Best slotCells best (first (key ts policy) (jobsOf ts cells)) → Chosen ts policy cells (cellOf best)
+  told : (best : ℕ) → Best slotCells best (first (policyKey ts policy) (jobsOf ts cells)) → Chosen ts (policyKey ts policy) cells (cellOf best)
   unfolding Best code job
   told best (inl s) =
       rw (eq-eqb best noCode (s .0)) (record { bound = omega arith; choice = sym (s .1); work = λ lt. absurd (omega arith) })
@@ -229,10 +229,10 @@ module _ (ts : Tasks) (policy : ℕ) (r : TasksInRange ts) (left : List ℕ) (e 
       rw (ne-eqb best noCode (λ z. absurd (omega (arith, code-low i lt))), place)
       (record { bound = omega arith; choice = rw (lt-ltb i slotCells lt) (sym f); work = λ _. p })
 
-  pub first-cell : {at : ℕ} → at ≡ firstCell policy cells left → Chosen ts policy cells at
+  pub first-cell : {at : ℕ} → at ≡ firstCell policy cells left → Chosen ts (policyKey ts policy) cells at
   unfolding first firstTo upTo codes firstCell
   first-cell is =
-      subst (Chosen ts policy cells) (sym is)
+      subst (Chosen ts (policyKey ts policy) cells) (sym is)
       (told (leastCode codes slotCells)
-      (subst (Best slotCells (leastCode codes slotCells)) (ap (foldl (sooner (key ts policy)) none) (sym (jobs-sized ts slotCells cells (h .size))))
+      (subst (Best slotCells (leastCode codes slotCells)) (ap (foldl (sooner (policyKey ts policy)) none) (sym (jobs-sized ts slotCells cells (h .size))))
       (best-to slotCells (le-refl slotCells))))

@@ -2,6 +2,7 @@ pub mod Lists
 pub mod Cells
 pub mod NewJobs
 pub mod Keys
+pub mod Held
 pub mod Rule
 pub mod Canonical
 pub mod Interruptions

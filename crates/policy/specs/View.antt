@@ -1,6 +1,6 @@
 -- What the cells of a node's jobs, the rules and a slot's result stand for.
 use mathlib.Core.Path.{_≡_}
-use mathlib.Core.Bool.{cond, not, _&&_}
+use mathlib.Core.Bool.{Bool, cond, not, _&&_}
 use mathlib.Core.List.{List, [], _++_, map}
 use mathlib.Core.Option.{Option, none, some}
 use Prim.Native.Nat.{ℕ, zero, suc, _+_, _-_, _*_, _/_, _%_, _<_, _≤_}
@@ -42,6 +42,13 @@ leftIn ts k = taskAt ts k .window - ageIn k
 abbrev pub leftTable : Tasks → List ℕ
 leftTable ts = map (leftIn ts) (upFrom 0 slotCells)
 
+-- the work below which a job in the cell k is held: all of a locked task's, and none of another's
+abbrev pub holdIn : Tasks → ℕ → ℕ
+holdIn ts k = cond (taskAt ts k .locked) (taskAt ts k .work) 0
+
+abbrev pub holdTable : Tasks → List ℕ
+holdTable ts = map (holdIn ts) (upFrom 0 slotCells)
+
 -- the job of the cell k with so much work remaining, and none where there is no work
 abbrev pub jobIn : Tasks → ℕ → ℕ → Job
 jobIn ts k w = record { task = taskIn k; work = w; left = leftIn ts k }
@@ -75,7 +82,7 @@ pub record Leaves (ts : Tasks) (js : List Job) (n : ℕ) (after : List ℕ) : Ty
   pub jobs : jobsOf ts after ≡ js
   pub cells : Cells ts n after
 
--- The steps of a slot on cells, where left has the slots left of a job in each cell.
+-- The steps of a slot on cells, where left has the slots left of a job in each cell, and hold the work below which it is held.
 
 -- the work of a new job of the task at i, 0 where the label has none
 abbrev pub newWork : Tasks → ℕ → ℕ → ℕ
@@ -122,6 +129,25 @@ cellOf code = cond (eqb code noCode) slotCells (code % places)
 unfoldable pub firstCell : ℕ → List ℕ → List ℕ → ℕ
 firstCell policy cells left = cellOf (leastCode (codeAt policy cells left) slotCells)
 
+-- the cells with the jobs that are held alone
+abbrev pub heldIn : List ℕ → List ℕ → ℕ → ℕ
+heldIn cells hold k = cond (ltb (getD cells k 0) (getD hold k 0)) (getD cells k 0) 0
+
+unfoldable pub heldCells : List ℕ → List ℕ → List ℕ
+heldCells cells hold = map (heldIn cells hold) (upFrom 0 slotCells)
+
+-- the greatest of f 0 to f (n − 1), 0 where there is none
+unfoldable pub greatest : (ℕ → ℕ) → ℕ → ℕ
+greatest f zero = 0
+greatest f (suc n) = cond (ltb (greatest f n) (f n)) (f n) (greatest f n)
+
+unfoldable pub hasJob : List ℕ → Bool
+hasJob cells = ltb 0 (greatest (λ k. getD cells k 0) slotCells)
+
+-- "a locked job that has begun and is unfinished runs before all others": the first is of those that are held, if any is, or else of all
+unfoldable pub runnableCells : List ℕ → List ℕ → List ℕ
+runnableCells cells hold = let held = heldCells cells hold in cond (hasJob held) held cells
+
 -- 3. It "runs one slot. Work falls by 1."
 abbrev pub workedIn : List ℕ → ℕ → List ℕ
 workedIn cells at = set cells at (getD cells at 0 - 1)
@@ -144,7 +170,7 @@ displacedTask cells ran at =
     let up = ran - maxTasks in
     cond (ltb ran slotCells && not (ltb ran maxTasks) && ltb 0 (getD cells up 0) && not (eqb up at)) (taskIn up) 0
 
--- the tasks of the rules, and the slots left by them
+-- the tasks of the rules, and the tables by them
 abbrev pub tasksIn : Rules → Tasks
 tasksIn r = tasksOf (r .tasks) (r .count)
 
@@ -152,6 +178,7 @@ pub record Ruled (r : Rules) : Type 0 where
   pub tasks : TasksInRange (tasksIn r)
   pub size : length (tasksIn r) ≡ r .count
   pub left : r .left ≡ leftTable (tasksIn r)
+  pub hold : r .hold ≡ holdTable (tasksIn r)
 
 -- the plans that the rules are of
 pub record PlanFor (P : model.Plan) (r : Rules) : Type 0 where
@@ -175,4 +202,4 @@ doneOf ts d = record { jobs = jobsOf ts (d .cells); ran = ranIn ts (d .ran); gai
 pub record Slotted (r : Rules) (before : List ℕ) (label : ℕ) (d : Done) : Type 0 where
   pub rule : (P : model.Plan) → P .tasks ≡ tasksIn r → P .policy ≡ r .policy → doneOf (tasksIn r) d ≡ model-slot.slot P (jobsOf (tasksIn r) before) label
   pub cells : Cells (tasksIn r) cellCount (d .cells)
-  pub ran : d .ran ≡ firstCell (r .policy) (joinedCells (tasksIn r) before label) (r .left)
+  pub ran : d .ran ≡ firstCell (r .policy) (runnableCells (joinedCells (tasksIn r) before label) (r .hold)) (r .left)

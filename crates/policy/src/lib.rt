@@ -12,7 +12,7 @@ ghost use lib.ListN.{getD, replicate};
 ghost use Rattle.model.specs.Limits.{maxTasks};
 ghost use Rattle.model.specs.Plan.{IsSound};
 ghost use Rattle.plan.specs.View.{taskView, tasksOf, planOf, Sized};
-ghost use Rattle.policy.specs.View.{Tasks, cellCount, slotCells, taskAt, leftIn, leftTable, Cells, Leaves, newWork, joinedCells, keyNumber, keyIn, codeIn, firstCell, workedIn, aged, tasksIn, Ruled, RulesOf, Slotted, taskNumber, displacedTask};
+ghost use Rattle.policy.specs.View.{Tasks, cellCount, slotCells, taskAt, leftIn, leftTable, holdIn, holdTable, Cells, Leaves, newWork, joinedCells, keyNumber, keyIn, codeIn, firstCell, heldCells, hasJob, runnableCells, workedIn, aged, tasksIn, Ruled, RulesOf, Slotted, taskNumber, displacedTask};
 
 const MAX_TASKS: usize = Node::MAX_TASKS;
 
@@ -45,12 +45,13 @@ const PLACES: u32 = 64;
 // The code of no job, above that of any job.
 const NO_CODE: u32 = 4294967295;
 
-// The tasks and the policy of a plan, and the slots left of a job in each cell.
+// The tasks and the policy of a plan, and for a job in each cell the slots left, and the work below which its lock holds it, 0 without one.
 pub struct Rules {
     pub tasks: [Task; MAX_TASKS],
     pub count: usize,
     pub policy: u8,
     pub left: [u8; SLOT_CELLS],
+    pub hold: [u8; SLOT_CELLS],
 }
 
 // What a slot leaves: the cells, the cell in which a job ran during the slot, NO_CELL for none, and the gain.
@@ -70,6 +71,7 @@ fn task_in(tasks: [Task; MAX_TASKS], count: usize, k: usize) -> Task
             work: 0,
             window: 0,
             value: 0,
+            locked: false,
         };
     }
     tasks[i]
@@ -102,6 +104,30 @@ fn left_table(tasks: [Task; MAX_TASKS], count: usize) -> [u8; SLOT_CELLS]
     left
 }
 
+// The work below which a job in a cell is held: all of a locked task's, and none of another's.
+fn hold_in(tasks: [Task; MAX_TASKS], count: usize, k: usize) -> u8
+    ensures { λ r. ⌜ r ≡ holdIn (tasksOf tasks count) k ⌝ }
+{
+    let task = task_in(tasks, count, k);
+    if task.locked {
+        return task.work;
+    }
+    0
+}
+
+// The same for each cell.
+fn hold_table(tasks: [Task; MAX_TASKS], count: usize) -> [u8; SLOT_CELLS]
+    ensures { λ r. ⌜ r ≡ holdTable (tasksOf tasks count) ⌝ }
+{
+    let mut hold = [0u8; SLOT_CELLS];
+    let mut k = 0;
+    while k < SLOT_CELLS {
+        hold[k] = hold_in(tasks, count, k);
+        k += 1;
+    }
+    hold
+}
+
 // The rules of a plan.
 pub fn rules_of(plan: Plan) -> Rules
     requires { ⌜ Sized plan × IsSound (planOf plan) ⌝ }
@@ -110,11 +136,13 @@ pub fn rules_of(plan: Plan) -> Rules
     let tasks = plan.tasks;
     let count = plan.count;
     let left = left_table(tasks, count);
+    let hold = hold_table(tasks, count);
     Rules {
         tasks,
         count,
         policy: plan.policy,
         left,
+        hold,
     }
 }
 
@@ -215,6 +243,56 @@ fn choose(policy: u8, cells: &[u8; SLOT_CELLS], left: &[u8; SLOT_CELLS]) -> usiz
     (best % PLACES) as usize
 }
 
+// The work of a job that is held, 0 of one that is not.
+fn if_held(work: u8, hold: u8) -> u8
+    ensures { λ r. ⌜ r ≡ cond (ltb work hold) work 0 ⌝ }
+{
+    if work < hold { work } else { 0 }
+}
+
+// The cells with the jobs that are held.
+fn held_cells(cells: &[u8; SLOT_CELLS], hold: &[u8; SLOT_CELLS]) -> [u8; SLOT_CELLS]
+    ensures { λ r. ⌜ r ≡ heldCells (now (cells .entry)) (now (hold .entry)) ⌝ }
+{
+    let mut held = [0u8; SLOT_CELLS];
+    let mut k = 0;
+    while k < SLOT_CELLS {
+        held[k] = if_held(cells[k], hold[k]);
+        k += 1;
+    }
+    held
+}
+
+fn most(a: u8, b: u8) -> u8
+    ensures { λ r. ⌜ r ≡ cond (ltb a b) b a ⌝ }
+{
+    if a < b { b } else { a }
+}
+
+// Whether a cell has a job: the most work is not 0. No branch waits for a cell.
+fn has_job(cells: &[u8; SLOT_CELLS]) -> bool
+    ensures { λ r. ⌜ r ≡ hasJob (now (cells .entry)) ⌝ }
+{
+    let mut work = 0;
+    let mut k = 0;
+    while k < SLOT_CELLS {
+        work = most(work, cells[k]);
+        k += 1;
+    }
+    0 < work
+}
+
+// The cells of the jobs of which the first by the policy's key runs: those that are held, if any is, or else all.
+fn runnable(cells: [u8; SLOT_CELLS], hold: &[u8; SLOT_CELLS]) -> [u8; SLOT_CELLS]
+    ensures { λ r. ⌜ r ≡ runnableCells cells (now (hold .entry)) ⌝ }
+{
+    let held = held_cells(&cells, hold);
+    if has_job(&held) {
+        return held;
+    }
+    cells
+}
+
 // The job in a cell runs: its work falls by 1.
 fn run(cells: [u8; SLOT_CELLS], at: usize) -> [u8; SLOT_CELLS]
     requires { ⌜ (at < slotCells) × (0 < getD cells at 0) ⌝ }
@@ -265,8 +343,10 @@ pub fn slot(rules: Rules, cells: [u8; CELLS], label: u8) -> Done
     let tasks = rules.tasks;
     let count = rules.count;
     let left = rules.left;
+    let hold = rules.hold;
     let ready = join(tasks, count, cells, label);
-    let at = choose(rules.policy, &ready, &left);
+    let pool = runnable(ready, &hold);
+    let at = choose(rules.policy, &pool, &left);
     if at == SLOT_CELLS {
         let older = age(&ready, &left);
         return Done {

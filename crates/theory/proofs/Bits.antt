@@ -1,4 +1,4 @@
--- The bits of a number: of a half, of bitOr and bitAnd, the count of ones, and the number with given bits.
+-- The bits of a number: of a half, of bitOr and bitAnd, the count of ones, the number with given bits, and runs of neighbouring bits.
 -- Assumes nothing.
 use mathlib.Core.Path.{_≡_, refl, sym, _∙_, ap, ap₂, subst}
 use mathlib.Core.Bool.{Bool, true, false, _&&_, _||_}
@@ -11,8 +11,10 @@ use lib.Bits.{bitAnd, bitOr, and-step, or-step, and-shr, or-shr}
 use lib.Dec.{T, eqb}
 use lib.Pow.{pow-mono, shr-shr}
 use Rattle.model.specs.Lists.{bit, one, ones, sum}
+use Rattle.model.specs.Masks.{bitRun}
+use Rattle.model.proofs.Runs.{run-none, run-double, run-more, run-ones, run-fits}
 use Rattle.model.proofs.Tests.{is-true, is-false, holds, fails, both-hold, left-holds, right-holds, or-cases, or-left, or-right}
-use Rattle.theory.proofs.Sums.{sum-same, sum-head, sum-past}
+use Rattle.theory.proofs.Sums.{sum-same, sum-le-same, sum-head, sum-past}
 
 -- the lowest bit
 abbrev odd : ℕ → Bool
@@ -168,3 +170,52 @@ bit-fromBits f (suc n) (suc k) h =
     let high : fromBits f (suc n) / 2 ≡ fromBits (λ j. f (suc j)) n = omega (arith, one-lt (f 0)) in
     sym (bit-half (fromBits f (suc n)) k) ∙ ap (λ (m : ℕ). bit m k) high
     ∙ bit-fromBits (λ j. f (suc j)) n k (omega arith)
+
+-- the bits of a run are those from its place on, as many as it is long
+pub run-bit : (c k j : ℕ) → T (bit (bitRun c k) j) ↔ ((k ≤ j) × (j < k + c))
+run-bit zero k j = (λ h. absurd (zero-no-bit (run-none k) j h), λ h. absurd (omega arith))
+run-bit (suc c) zero zero =
+    let low : bitRun (suc c) 0 % 2 ≡ 1 = omega (arith, run-more c) in
+    (λ h. (omega arith, omega arith), λ h. holds (bit-zero (bitRun (suc c) 0) ∙ ap (λ (d : ℕ). eqb d 1) low))
+run-bit (suc c) zero (suc j) =
+    let half : bitRun (suc c) 0 / 2 ≡ bitRun c 0 = omega (arith, run-more c) in
+    let same = sym (bit-half (bitRun (suc c) 0) j) ∙ ap (λ (m : ℕ). bit m j) half in
+    (λ h. omega (arith, run-bit c 0 j .0 (subst T same h)), λ h. subst T (sym same) (run-bit c 0 j .1 (omega arith, omega arith)))
+run-bit (suc c) (suc k) zero =
+    let low : bitRun (suc c) (suc k) % 2 ≡ 0 = omega (arith, run-double (suc c) k) in
+    (λ h. absurd (fails (bit-zero (bitRun (suc c) (suc k)) ∙ ap (λ (d : ℕ). eqb d 1) low) h), λ h. absurd (omega arith))
+run-bit (suc c) (suc k) (suc j) =
+    let half : bitRun (suc c) (suc k) / 2 ≡ bitRun (suc c) k = omega (arith, run-double (suc c) k) in
+    let same = sym (bit-half (bitRun (suc c) (suc k)) j) ∙ ap (λ (m : ℕ). bit m j) half in
+    (λ h. omega (arith, run-bit (suc c) k j .0 (subst T same h)), λ h. subst T (sym same) (run-bit (suc c) k j .1 (omega arith, omega arith)))
+
+-- a test that implies another counts no more
+one-mono : (a b : Bool) → (T a → T b) → one a ≤ one b
+one-mono true true h = omega arith
+one-mono true false h = absurd (h tt)
+one-mono false b h = omega arith
+
+-- a number with c ones, all of them at the c places from k on, is the run
+pub run-of : (n m c k : ℕ) → m < 2 ^ n → ones n m ≡ c → ((j : ℕ) → T (bit m j) → (k ≤ j) × (j < k + c)) → m ≡ bitRun c k
+run-of n m c k h o b =
+    bits-determine w m (bitRun c k) (lt-of-lt-of-le h (pow-mono (omega arith))) (run-fits c k w (omega arith))
+    (λ j l. one-bit (sum-le-same mine its w (λ i _. le i) (omega (arith, whole)) j l))
+  where
+    w : ℕ
+    w = n + (k + c)
+
+    mine : ℕ → ℕ
+    mine j = one (bit m j)
+
+    its : ℕ → ℕ
+    its j = one (bit (bitRun c k) j)
+
+    whole : sum its w ≡ sum mine w
+    whole =
+        sym (ones-sum w (bitRun c k)) ∙ run-ones c k w (omega arith) ∙ sym o ∙ sym (ones-past n w m h (omega arith)) ∙ ones-sum w m
+
+    le : (i : ℕ) → mine i ≤ its i
+    le i = one-mono (bit m i) (bit (bitRun c k) i) (λ t. run-bit c k i .1 (b i t))
+
+    one-bit : {x y : Bool} → one x ≡ one y → x ≡ y
+    one-bit {x} {y} e = sym (eqb-one x) ∙ ap (λ (d : ℕ). eqb d 1) e ∙ eqb-one y

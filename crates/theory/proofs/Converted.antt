@@ -1,7 +1,7 @@
 -- Plans in both editions: what is sent forth comes back, what the first edition can't say, and what carries over.
 -- Assumes nothing.
 use mathlib.Core.Path.{_≡_, refl, sym, ap, _∙_, subst}
-use mathlib.Core.Bool.{Bool, true, false, cond, false≢true}
+use mathlib.Core.Bool.{Bool, true, false, cond, not, _&&_, _||_, false≢true}
 use mathlib.Core.List.{List, [], _∷_, List·Memᴰ}
 use mathlib.Core.Logic.{_↔_}
 use mathlib.Core.Option.{some}
@@ -21,7 +21,7 @@ use Rattle.model.specs.PlanBytes.{planBytesIn, planBytes}
 use Rattle.model.specs.Convert.{forth, says, backOf, back, Converted, Unsaid, CertificateCarried, CarriesOver}
 use Rattle.model.proofs.Plan.{both, first-wide, long-wide}
 use Rattle.model.proofs.Calls.{room-enough, by-plan}
-use Rattle.model.proofs.Tests.{true-and, all-each}
+use Rattle.model.proofs.Tests.{true-and, implies-test, all-each}
 use Rattle.words.proofs.Numbers.{AreBytes}
 use Rattle.theory.proofs.Sound.{TaskSoundIn, PlanSoundIn, PlanSound, read-sound, sound-plan}
 use Rattle.theory.proofs.PlanRead.{plan-read-back}
@@ -57,25 +57,32 @@ first-in-long P s = with-tasks P s (λ t m.
       windowFits = omega (arith, k .windowFits);
       someValue = k .someValue;
       valueFits = omega (arith, k .valueFits);
+      lockFits = λ h. refl;
     })
 
 -- and one whose tasks the first edition can say is of the first
 said-in-first : (P : Plan) → PlanSound P → all (says firstEdition) (P .tasks) ≡ true → PlanSoundIn firstEdition P
 said-in-first P s h = with-tasks P s (λ t m.
     let k = s .task t m in
-    let two = both (leb (t .window) 8) (leb (t .value) 255) (all-each (says firstEdition) (P .tasks) .0 h t m) in
+    let three = both (leb (t .window) 8 && leb (t .value) 255) (not (t .locked) || false) (all-each (says firstEdition) (P .tasks) .0 h t m) in
+    let two = both (leb (t .window) 8) (leb (t .value) 255) (three .0) in
     record {
       someWork = k .someWork;
       workFits = k .workFits;
       windowFits = leb-true _ _ (two .0);
       someValue = k .someValue;
       valueFits = leb-true _ _ (two .1);
+      lockFits = implies-test (t .locked) false .0 (three .1);
     })
 
 first-said : (P : Plan) → PlanSoundIn firstEdition P → all (says firstEdition) (P .tasks) ≡ true
 first-said P s =
     all-each (says firstEdition) (P .tasks) .1
-    (λ t m. true-and (leb (t .window) 8) (leb (t .value) 255) (le-leb _ _ (s .task t m .windowFits)) (le-leb _ _ (s .task t m .valueFits)))
+    (λ t m.
+    let k = s .task t m in
+    true-and (leb (t .window) 8 && leb (t .value) 255) (not (t .locked) || false)
+    (true-and (leb (t .window) 8) (leb (t .value) 255) (le-leb _ _ (k .windowFits)) (le-leb _ _ (k .valueFits)))
+    (implies-test (t .locked) false .1 (k .lockFits)))
 
 -- ---- sent forth and back
 

@@ -1,7 +1,7 @@
 -- What the choices of masks and the edges of a node are, by their parts.
 -- Assumes nothing.
 use mathlib.Core.Path.{_≡_, refl, sym, _∙_, ap, subst}
-use mathlib.Core.Bool.{Bool, true, false, _&&_}
+use mathlib.Core.Bool.{Bool, true, false, cond, _&&_, false≢true}
 use mathlib.Core.Option.{Option, none, some, Option·none-ne-some, Option·some-injective}
 use mathlib.Core.Logic.{_↔_, _⊎_, inl, inr, ⊎-elim}
 use mathlib.Core.List.{List, [], _∷_, map, List·Memᴰ, List·Memᴰ·head, List·Memᴰ·tail, List·Memᴰ·not-nil, List·Memᴰ·cases-cons, List·Memᴰ·eq-of-singleton, Memᴰ·cast, Memᴰ·map, Memᴰ·of-map}
@@ -15,51 +15,80 @@ use borrow.Author.Tests.{eqb-true, eq-eqb}
 use Rattle.model.specs.Lists.{bit, ones, keep, upFrom}
 use Rattle.model.specs.Plan.{Task, Plan, nextIn}
 use Rattle.model.specs.Slot.{noTask}
-use Rattle.model.specs.Masks.{masksOf}
+use Rattle.model.specs.Masks.{freeMasks, neighbouring, masksOf}
 use Rattle.model.specs.Graph.{Node, Edge, joined, choices, edgeOf, edgesTo, edgesAt, edges}
 use Rattle.model.proofs.Lists.{mem-of-keep, mem-keep, mem-of-upFrom, mem-upFrom, mem-of-flatMap, mem-flatMap}
 use Rattle.model.proofs.Plan.{both}
+use Rattle.model.proofs.Runs.{zero-neighbouring}
 use Rattle.theory.proofs.Bits.{Apart, and-apart, bit-zero, bit-half, zero-no-bit, or-bit}
 
--- "if the label releases it, C bits below bit D"
+-- "if the label releases it, C bits below bit D"; "a locked task's mask is a run of neighbouring bits"
 pub record Picked (t : Task) (released : Bool) (m : ℕ) : Type 0 where
   pub out : T released
   pub pos : 1 ≤ m
   pub below : m < 2 ^ t .window
   pub size : ones (t .window) m ≡ t .work
+  pub run : t .locked ≡ true → neighbouring (t .window) m ≡ true
 
 -- "either 0, or .."
 abbrev pub MaskOf : Task → Bool → ℕ → Type 0
 MaskOf t released m = (m ≡ 0) ⊎ Picked t released m
 
+-- the elements that pass a test, where it is asked
+mem-kept : (asked : Bool) (f : ℕ → Bool) (l : List ℕ) (m : ℕ) → List·Memᴰ m (cond asked (keep f l) l) ↔ (List·Memᴰ m l × (asked ≡ true → f m ≡ true))
+mem-kept true f l m = (λ h. let r = mem-of-keep f l h in (r .0, λ _. r .1), λ r. mem-keep f (r .0) (r .1 refl))
+mem-kept false f l m = (λ h. (h, λ e. absurd (false≢true e)), λ r. r .0)
+
+module _ (t : Task) (m : ℕ) where
+  -- a lock asks for a run
+  abbrev Asked : Type 0
+  Asked = t .locked ≡ true → neighbouring (t .window) m ≡ true
+
+  -- 0 is one, and so is a mask that fits
+  mask-run : (b : Bool) → MaskOf t b m → Asked
+  mask-run b h l =
+      ⊎-elim (λ (e : m ≡ 0). ap (neighbouring (t .window)) e ∙ zero-neighbouring (t .window)) (λ (p : Picked t b m). p .run l) h
+
+  module _ (taken : ℕ) where
+    -- C ones, clear of the pattern
+    abbrev counted : ℕ → Bool
+    counted n = eqb (ones (t .window) n) (t .work) && eqb (bitAnd n taken) 0
+
+    -- a free mask that is a run where a lock asks for it is 0, or fits the task
+    of-freeMasks : (b : Bool) → List·Memᴰ m (freeMasks t b taken) → Asked → MaskOf t b m × Apart m taken
+    unfolding freeMasks
+    of-freeMasks false h run = let e = List·Memᴰ·eq-of-singleton h in (inl e, λ k b _. zero-no-bit e k b)
+    of-freeMasks true h run =
+        ⊎-elim (λ (e : m ≡ 0). (inl e, λ k b _. zero-no-bit e k b))
+        (λ k. of-kept (mem-of-keep counted (upFrom 1 (2 ^ (t .window) - 1)) k)) (List·Memᴰ·cases-cons h)
+      where
+        of-kept : List·Memᴰ m (upFrom 1 (2 ^ (t .window) - 1)) × (counted m ≡ true) → MaskOf t true m × Apart m taken
+        of-kept (h, e) =
+            let r = mem-of-upFrom 1 (2 ^ (t .window) - 1) h in
+            let two = both (eqb (ones (t .window) m) (t .work)) (eqb (bitAnd m taken) 0) e in (
+              inr (record { out = tt; pos = r .0; below = omega (arith, suc-ones (t .window), r .1); size = eqb-true _ _ (two .0); run = run }),
+              and-apart m taken .0 (eqb-true _ _ (two .1)),
+            )
+
+    -- and back
+    in-freeMasks : (b : Bool) → MaskOf t b m → Apart m taken → List·Memᴰ m (freeMasks t b taken)
+    unfolding freeMasks
+    in-freeMasks false h a = List·Memᴰ·head (⊎-elim (λ (e : m ≡ 0). e) (λ (p : Picked t false m). absurd (p .out)) h)
+    in-freeMasks true h a = ⊎-elim (λ (e : m ≡ 0). List·Memᴰ·head e) (λ (p : Picked t true m). List·Memᴰ·tail (kept p)) h
+      where
+        kept : Picked t true m → List·Memᴰ m (keep counted (upFrom 1 (2 ^ (t .window) - 1)))
+        kept p =
+            mem-keep counted (mem-upFrom 1 (2 ^ (t .window) - 1) (p .pos) (omega (arith, suc-ones (t .window), p .below)))
+            (rw (eq-eqb _ _ (p .size), eq-eqb _ _ (and-apart m taken .1 a)))
+
 -- the masks of a task are 0, or fit it, and are clear of the pattern
 pub mem-masksOf : (t : Task) (b : Bool) (taken m : ℕ) → List·Memᴰ m (masksOf t b taken) ↔ (MaskOf t b m × Apart m taken)
 unfolding masksOf
-mem-masksOf t false taken m = (
-  λ h. let e = List·Memᴰ·eq-of-singleton h in (inl e, λ k b _. zero-no-bit e k b),
-  λ h. List·Memᴰ·head (⊎-elim (λ (e : m ≡ 0). e) (λ (p : Picked t false m). absurd (p .out)) (h .0)),
-)
-mem-masksOf t true taken m = (
-  λ h. ⊎-elim (λ (e : m ≡ 0). (inl e, λ k b _. zero-no-bit e k b))
-      (λ k. of-kept (mem-of-keep test (upFrom 1 (2 ^ (t .window) - 1)) k)) (List·Memᴰ·cases-cons h),
-  λ h. ⊎-elim (λ (e : m ≡ 0). List·Memᴰ·head e) (λ (p : Picked t true m). List·Memᴰ·tail (kept p (h .1))) (h .0),
-)
-  where
-    test : ℕ → Bool
-    test n = eqb (ones (t .window) n) (t .work) && eqb (bitAnd n taken) 0
-
-    of-kept : List·Memᴰ m (upFrom 1 (2 ^ (t .window) - 1)) × (test m ≡ true) → MaskOf t true m × Apart m taken
-    of-kept (h, e) =
-        let r = mem-of-upFrom 1 (2 ^ (t .window) - 1) h in
-        let two = both (eqb (ones (t .window) m) (t .work)) (eqb (bitAnd m taken) 0) e in (
-          inr (record { out = tt; pos = r .0; below = omega (arith, suc-ones (t .window), r .1); size = eqb-true _ _ (two .0) }),
-          and-apart m taken .0 (eqb-true _ _ (two .1)),
-        )
-
-    kept : Picked t true m → Apart m taken → List·Memᴰ m (keep test (upFrom 1 (2 ^ (t .window) - 1)))
-    kept p a =
-        mem-keep test (mem-upFrom 1 (2 ^ (t .window) - 1) (p .pos) (omega (arith, suc-ones (t .window), p .below)))
-        (rw (eq-eqb _ _ (p .size), eq-eqb _ _ (and-apart m taken .1 a)))
+mem-masksOf t b taken m =
+    let kept = mem-kept (t .locked) (neighbouring (t .window)) (freeMasks t b taken) m in (
+      λ h. let r = kept .0 h in of-freeMasks t m taken b (r .0) (r .1),
+      λ h. kept .1 (in-freeMasks t m taken b (h .0) (h .1), mask-run t m b (h .0)),
+    )
 
 -- a choice: for each task a mask, "clear of the pattern and of the other masks"; past the tasks getD is 0
 pub record Fits (ts : List Task) (l taken : ℕ) (ms : List ℕ) : Type 0 where

@@ -11,10 +11,10 @@ use Rattle.model.specs.Limits.{workRoom}
 use Rattle.model.specs.Bytes.{number, bytes, signed, complement}
 use Rattle.model.specs.Cases.{planA, planB, planC, certificateA, certificateB, certificateC, readA, readB, readC, passes-A, passes-B, passes-C}
 use Rattle.model.specs.Plan.{Plan, sound, readPlan, readPlanIn, readFrom, firstFault, fault, after, width, lastOperand, mayFollow, inRange, taskInRange, arcInRange}
-use Rattle.model.specs.Slot.{Job, chosenIn, slot, ready, first, key}
+use Rattle.model.specs.Slot.{Job, chosenIn, slot, ready, first, policyKey, key}
 use Rattle.model.specs.Schedule.{gainFrom, policyGain}
 use Rattle.model.specs.Hopeless.{Hopeless}
-use Rattle.model.specs.Masks.{masksOf}
+use Rattle.model.specs.Masks.{freeMasks, masksOf}
 use Rattle.model.specs.Discovery.{found}
 use Rattle.model.specs.Graph.{Edge, choices, edgeOf, edgesAt, edges, nodes, tooLarge}
 use Rattle.model.specs.Share.{KeptShare}
@@ -30,12 +30,12 @@ use Rattle.theory.proofs.Unique.{SameButCycle, solved-once}
 
 -- B: nothing is kept for certain, whatever is allowed
 pub claim-B : (P : Plan) × (readPlan planB ≡ sound P) × KeptShare P 0 1 0
-unfolding number signed readPlanIn readFrom firstFault fault after width lastOperand mayFollow inRange taskInRange arcInRange slot ready first key masksOf choices edgeOf edgesAt edges found nodes tooLarge readCertificateIn readPotentials readSteps check verdict fractionOk gcd potentialsOk cycleOk follow allowance
+unfolding number signed readPlanIn readFrom firstFault fault after width lastOperand mayFollow inRange taskInRange arcInRange slot ready first policyKey key freeMasks masksOf choices edgeOf edgesAt edges found nodes tooLarge readCertificateIn readPotentials readSteps check verdict fractionOk gcd potentialsOk cycleOk follow allowance
 claim-B = check-plan planB certificateB workRoom {N = 5} refl
 
 -- and its line is `0 1 5 0 0`
 pub line-B : checkText (check planB certificateB workRoom) ≡ 48 ∷ 32 ∷ 49 ∷ 32 ∷ 53 ∷ 32 ∷ 48 ∷ 32 ∷ 48 ∷ 10 ∷ []
-unfolding number signed readPlanIn readFrom firstFault fault after width lastOperand mayFollow inRange taskInRange arcInRange slot ready first key masksOf choices edgeOf edgesAt edges found nodes tooLarge readCertificateIn readPotentials readSteps check verdict fractionOk gcd potentialsOk cycleOk follow allowance thousandths decimal checkText
+unfolding number signed readPlanIn readFrom firstFault fault after width lastOperand mayFollow inRange taskInRange arcInRange slot ready first policyKey key freeMasks masksOf choices edgeOf edgesAt edges found nodes tooLarge readCertificateIn readPotentials readSteps check verdict fractionOk gcd potentialsOk cycleOk follow allowance thousandths decimal checkText
 line-B = refl
 
 -- a job of B's second task that can't finish
@@ -44,12 +44,12 @@ stuck = record { task = 2; work = 2; left = 1 }
 
 -- "labels 3, then 2 in every slot, keep the policy on hopeless jobs": each of them leaves one like it
 pub hopeless-B : Hopeless stuck × (slot readB [] 3 .jobs ≡ stuck ∷ []) × (chosenIn readB (stuck ∷ []) 2 ≡ some stuck) × (slot readB (stuck ∷ []) 2 .jobs ≡ stuck ∷ [])
-unfolding slot ready first key
+unfolding slot ready first policyKey key
 hopeless-B = (record { present = omega arith; short = omega arith }, refl, refl, refl)
 
 -- so the policy gains 1, however long that goes on
 pub gain-B : (n : ℕ) → policyGain readB (3 ∷ replicate n 2) ≡ 1
-unfolding slot ready first key
+unfolding slot ready first policyKey key
 gain-B n = ap (λ g. 1 + g) (none n)
   where
     none : (m : ℕ) → gainFrom readB (stuck ∷ []) (replicate m 2) ≡ 0
@@ -58,7 +58,7 @@ gain-B n = ap (λ g. 1 + g) (none n)
 
 -- C: no schedule gains more than 1
 pub claim-C : (P : Plan) × (readPlan planC ≡ sound P) × KeptShare P 1 0 1
-unfolding number signed readPlanIn readFrom firstFault fault after width lastOperand mayFollow inRange taskInRange arcInRange slot ready first key masksOf choices edgeOf edgesAt edges found nodes tooLarge readCertificateIn readPotentials readSteps check verdict fractionOk gcd potentialsOk cycleOk follow allowance
+unfolding number signed readPlanIn readFrom firstFault fault after width lastOperand mayFollow inRange taskInRange arcInRange slot ready first policyKey key freeMasks masksOf choices edgeOf edgesAt edges found nodes tooLarge readCertificateIn readPotentials readSteps check verdict fractionOk gcd potentialsOk cycleOk follow allowance
 claim-C = check-plan planC certificateC workRoom {N = 2} refl
 
 -- the certificate that the bytes of A are
@@ -67,7 +67,7 @@ writtenA = record { p = 1; q = 1; potentials = pos 0 ∷ []; node = 0; steps = r
 
 -- A: the solver may write this certificate, after "1 in case A"
 pub solved-A : (readCertificate certificateA ≡ some writtenA) × Solved readA writtenA 1
-unfolding number bytes signed complement readPlanIn readFrom firstFault fault after width lastOperand mayFollow inRange taskInRange arcInRange slot ready first key masksOf choices edgeOf edgesAt edges found nodes tooLarge certificateBytesIn readCertificateIn readPotentials readSteps check verdict fractionOk gcd potentialsOk cycleOk follow allowance
+unfolding number bytes signed complement readPlanIn readFrom firstFault fault after width lastOperand mayFollow inRange taskInRange arcInRange slot ready first policyKey key freeMasks masksOf choices edgeOf edgesAt edges found nodes tooLarge certificateBytesIn readCertificateIn readPotentials readSteps check verdict fractionOk gcd potentialsOk cycleOk follow allowance
 solved-A = (refl, record { form = refl; accepted = refl; potentials = smallest; passes = passes-A .passes; few = omega arith })
   where
     smallest : AllSmallest readA 1 1 (writtenA .potentials)
@@ -76,7 +76,7 @@ solved-A = (refl, record { form = refl; accepted = refl; potentials = smallest; 
 
 -- so, whatever it writes, it makes one pass
 pub one-pass-A : {c : Certificate} {k : ℕ} → Solved readA c k → k ≡ 1
-unfolding slot ready first key masksOf choices edgeOf edgesAt edges found nodes tooLarge
+unfolding slot ready first policyKey key freeMasks masksOf choices edgeOf edgesAt edges found nodes tooLarge
 one-pass-A s = solved-once (record { bytes = planA; read = passes-A .read }) refl s (solved-A .1) .passes
 
 -- from the fourth element on
@@ -95,7 +95,7 @@ writtenB = record {
 
 -- B: the solver may write this certificate, after two passes; the fourth to the seventh edge of the start lead to the other nodes
 pub solved-B : (readCertificate certificateB ≡ some writtenB) × Solved readB writtenB 2
-unfolding number bytes signed complement readPlanIn readFrom firstFault fault after width lastOperand mayFollow inRange taskInRange arcInRange slot ready first key masksOf choices edgeOf edgesAt edges found nodes tooLarge certificateBytesIn readCertificateIn readPotentials readSteps check verdict fractionOk gcd potentialsOk cycleOk follow allowance
+unfolding number bytes signed complement readPlanIn readFrom firstFault fault after width lastOperand mayFollow inRange taskInRange arcInRange slot ready first policyKey key freeMasks masksOf choices edgeOf edgesAt edges found nodes tooLarge certificateBytesIn readCertificateIn readPotentials readSteps check verdict fractionOk gcd potentialsOk cycleOk follow allowance
 solved-B = (refl, record { form = refl; accepted = refl; potentials = smallest; passes = passes-B .passes; few = omega arith })
   where
     smallest : AllSmallest readB 0 1 (writtenB .potentials)
@@ -108,7 +108,7 @@ solved-B = (refl, record { form = refl; accepted = refl; potentials = smallest; 
 
 -- so, whatever it writes, it writes this fraction and these potentials, after two passes
 pub only-B : {c : Certificate} {k : ℕ} → Solved readB c k → SameButCycle c writtenB k 2
-unfolding slot ready first key masksOf choices edgeOf edgesAt edges found nodes tooLarge
+unfolding slot ready first policyKey key freeMasks masksOf choices edgeOf edgesAt edges found nodes tooLarge
 only-B s = solved-once (record { bytes = planB; read = passes-B .read }) refl s (solved-B .1)
 
 -- the certificate that the bytes of C are
@@ -117,7 +117,7 @@ writtenC = record { p = 1; q = 0; potentials = pos 0 ∷ negsuc 0 ∷ []; node =
 
 -- C: "potentials 0, −1" are the smallest sums, so this is the only certificate that the solver may write, after "2 in case C"
 pub solved-C : (readCertificate certificateC ≡ some writtenC) × Solved readC writtenC 2
-unfolding number bytes signed complement readPlanIn readFrom firstFault fault after width lastOperand mayFollow inRange taskInRange arcInRange slot ready first key masksOf choices edgeOf edgesAt edges found nodes tooLarge certificateBytesIn readCertificateIn readPotentials readSteps check verdict fractionOk gcd potentialsOk cycleOk follow allowance
+unfolding number bytes signed complement readPlanIn readFrom firstFault fault after width lastOperand mayFollow inRange taskInRange arcInRange slot ready first policyKey key freeMasks masksOf choices edgeOf edgesAt edges found nodes tooLarge certificateBytesIn readCertificateIn readPotentials readSteps check verdict fractionOk gcd potentialsOk cycleOk follow allowance
 solved-C = (refl, record { form = refl; accepted = refl; potentials = smallest; passes = passes-C .passes; few = omega arith })
   where
     smallest : AllSmallest readC 1 0 (writtenC .potentials)
@@ -127,5 +127,5 @@ solved-C = (refl, record { form = refl; accepted = refl; potentials = smallest; 
 
 -- so, whatever it writes, it makes two passes
 pub two-passes-C : {c : Certificate} {k : ℕ} → Solved readC c k → k ≡ 2
-unfolding slot ready first key masksOf choices edgeOf edgesAt edges found nodes tooLarge
+unfolding slot ready first policyKey key freeMasks masksOf choices edgeOf edgesAt edges found nodes tooLarge
 two-passes-C s = solved-once (record { bytes = planC; read = passes-C .read }) refl s (solved-C .1) .passes

@@ -83,7 +83,7 @@ module _ (k : Job → List ℕ) (m : Job) where
       go later (inr n) = later n
 
   -- a job whose key is below that of every other is the first
-  least-key-first : (js : List Job) → IsFirst k m js → List·Memᴰ m js → first k js ≡ some m
+  pub least-key-first : (js : List Job) → IsFirst k m js → List·Memᴰ m js → first k js ≡ some m
   unfolding first
   least-key-first js h i = least-found none tt js h i
 
@@ -121,6 +121,15 @@ after-work none j = omega arith
 after-work (some chosen) j = go (isJob chosen j)
   where
     go : (b : Bool) → j .work ≤ suc (cond b (j .work - 1) (j .work))
+    go true = omega arith
+    go false = omega arith
+
+-- and never raises it
+pub after-less : (c : Option Job) (j : Job) → afterChoice c j .work ≤ j .work
+after-less none j = omega arith
+after-less (some chosen) j = go (isJob chosen j)
+  where
+    go : (b : Bool) → cond b (j .work - 1) (j .work) ≤ j .work
     go true = omega arith
     go false = omega arith
 
@@ -170,13 +179,13 @@ module _ (P : Plan) where
   unfolding ready
   is-ready l m = Memᴰ·append-left (newJobs (P .tasks) l 1) m
 
-  stays-there : {js : List Job} {j : Job} (l : ℕ) → List·Memᴰ j js → Hopeless (afterChoice (chosenIn P js l) j) →
+  -- and leaves what has work and slots left after it
+  pub stays-there : {js : List Job} {j : Job} (l : ℕ) → List·Memᴰ j js → 0 < afterChoice (chosenIn P js l) j .work → 0 < afterChoice (chosenIn P js l) j .left →
       List·Memᴰ (afterChoice (chosenIn P js l) j) (slot P js l .jobs)
-  stays-there {js} {j} l m h =
+  stays-there {js} {j} l m w h =
       let after = afterChoice (chosenIn P js l) j in
       subst (List·Memᴰ after) (sym (slot-jobs js l))
-      (mem-keep stays (Memᴰ·map (afterChoice (chosenIn P js l)) (is-ready l m))
-      (rw (lt-ltb 0 (after .work) (omega (arith, h .short)), lt-ltb 0 (after .left) (h .present))))
+      (mem-keep stays (Memᴰ·map (afterChoice (chosenIn P js l)) (is-ready l m)) (rw (lt-ltb 0 (after .work) w, lt-ltb 0 (after .left) h)))
 
   -- what a slot leaves has slots left
   left-over : (js : List Job) (l : ℕ) (k : Job) → List·Memᴰ k (slot P js l .jobs) → 0 < k .left
@@ -201,7 +210,7 @@ module _ (P : Plan) where
   hopeless-after (l ∷ ls) js j m h lt =
       let c = chosenIn P js l in
       let still = still-hopeless c h (omega arith) in
-      hopeless-after ls (slot P js l .jobs) (afterChoice c j) (stays-there l m still) still (omega (arith, after-left c j))
+      hopeless-after ls (slot P js l .jobs) (afterChoice c j) (stays-there l m (omega (arith, still .short)) (still .present)) still (omega (arith, after-left c j))
 
   left-after : (ls : List ℕ) (js : List Job) (j : Job) → jobAfter P js j ls .left ≡ j .left - length ls
   left-after [] js j = omega arith

@@ -6,6 +6,8 @@ pub mod Sound
 pub mod Walks
 pub mod Schedules
 pub mod Hopeless
+pub mod Jobs
+pub mod Locks
 pub mod Interrupted
 pub mod Cycles
 pub mod Nodes

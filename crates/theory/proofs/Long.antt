@@ -1,7 +1,7 @@
 -- Bytes past the longest plan, labels past the most, and bytes past the longest certificate change no answer.
 -- Assumes nothing.
 use mathlib.Core.Path.{_≡_, refl, sym, ap, _∙_}
-use mathlib.Core.Bool.{Bool, true, false, cond, not, _&&_, false≢true}
+use mathlib.Core.Bool.{Bool, true, false, cond, not, _&&_}
 use mathlib.Core.List.{List, [], _∷_, _++_, List·Memᴰ, List·Memᴰ·head, List·Memᴰ·tail}
 use mathlib.Core.Option.{Option, none, some, Option·none-ne-some, Option·some-injective}
 use mathlib.Core.Logic.{⊎-elim}
@@ -18,17 +18,18 @@ use Rattle.model.specs.Edition.{Edition, longReads, taskWidth, planRoomIn}
 use Rattle.model.specs.Lists.{one, upFrom}
 use Rattle.model.specs.Bytes.{number, signed, part}
 use Rattle.model.specs.Certificate.{Step, Certificate, Parsed, consParsed, has, readPotentials, stepWidth, masksAt, readSteps, isEnd, withSteps, withPotentials, readCertificateIn, readCertificate}
-use Rattle.model.specs.Plan.{Plan, Arc, Reading, nothingRead, isZero, width, mayFollow, inRange, firstFault, fault, after, lastOperand, refusedOr, readFrom, readPlanIn, unknown, pairRises}
+use Rattle.model.specs.Plan.{Task, Plan, Arc, Reading, nothingRead, isZero, width, mayFollow, inRange, firstFault, fault, lockAt, after, lastOperand, refusedOr, readFrom, readPlanIn, unknown, rises}
+use Rattle.model.specs.PlanBytes.{lockBytes}
 use Rattle.model.specs.Refusals.{tooManyLabels, notAdmitted}
 use Rattle.model.specs.Schedule.{admits}
 use Rattle.model.specs.Calls.{refuses, writes}
 use Rattle.model.specs.Trace.{slots, traceRun}
 use lib.Seq.{getD-drop}
 use Rattle.model.proofs.Lists.{map-same, mem-of-upFrom}
-use Rattle.model.proofs.Plan.{both, width-pos, readFrom-at, fault-none, Passes}
+use Rattle.model.proofs.Plan.{both, width-pos, readFrom-at, fault-none, Passes, by-command, lockAt-length, locks-few, lockBytes-unlocked, lock-last}
 use Rattle.model.proofs.Tests.{one-le, cond-some}
 use Rattle.theory.proofs.Reread.{cons-some}
-use Rattle.theory.proofs.Sound.{ArcsRise, Before, Held, held-nothing, held-after, known-le}
+use Rattle.theory.proofs.Sound.{ArcsRise, Before, Held, held-nothing, held-after}
 
 -- the labels of a state, and the pairs of a state and a label
 abbrev labelCount : ℕ
@@ -40,7 +41,7 @@ pairCount = maxStates * labelCount
 -- the bytes of the commands read so far
 abbrev size : Edition → Reading → ℕ
 size e r =
-    taskWidth e * length (r .tasks) + 2 * one (not (isZero (r .policy))) + 2 * one (not (isZero (r .states))) + 4 * length (r .arcs) + one (r .ended)
+    taskWidth e * length (r .tasks) + length (lockBytes (r .tasks) 1) + 2 * one (not (isZero (r .policy))) + 2 * one (not (isZero (r .states))) + 4 * length (r .arcs) + one (r .ended)
 
 abbrev place : Arc → ℕ
 place a = a .from * labelCount + a .label
@@ -76,7 +77,8 @@ arcs-few r h = go (r .arcs) (h .rise) each
 size-most : (e : Edition) (r : Reading) → Held e r → size e r ≤ planRoomIn e
 size-most e r h =
     let tasks : taskWidth e * length (r .tasks) ≤ taskWidth e * maxTasks = mul-le-mul-left (taskWidth e) (h .tasksFit) in
-    omega (arith, arcs-few r h, one-le (not (isZero (r .policy))), one-le (not (isZero (r .states))), one-le (r .ended))
+    let each : ℕ = cond (e .locks) 2 0 in
+    omega (arith, arcs-few r h, locks-few e (r .tasks) 1 (λ t m. h .task t m .lockFits), mul-le-mul-left each (h .tasksFit), one-le (not (isZero (r .policy))), one-le (not (isZero (r .states))), one-le (r .ended))
 
 -- no command is longer than a task's or four bytes
 abbrev pub widest : Edition → ℕ
@@ -100,30 +102,61 @@ given-some : (n : ℕ) → leb 1 n ≡ true → one (not (isZero n)) ≡ 1
 given-some n h = ap (λ (b : Bool). one (not b)) (ne-eqb n 0 (omega (arith, leb-true)))
 
 module _ (e : Edition) (r : Reading) (x y z : ℕ) where
-  -- a command without a fault adds its bytes
-  size-after : (c : ℕ) → Passes e r c x y z → width e c + size e r ≤ size e (after r c x y z)
-  unfolding width after mayFollow inRange
-  size-after zero p = absurd (false≢true (sym (p .known)))
-  size-after (suc zero) p =
-      let more : length (r .tasks ++ (record { work = x; window = y; value = z } ∷ [])) ≡ suc (length (r .tasks)) = omega (arith, length-append (r .tasks) (record { work = x; window = y; value = z } ∷ [])) in
+  -- the command c, without a fault, adds its bytes
+  abbrev Adds : ℕ → Type 0
+  Adds c = Passes e r c x y z → width e c + size e r ≤ size e (after r c x y z)
+
+  -- a task
+  adds-task : Adds 1
+  unfolding width after
+  adds-task p =
+      let t : Task = record { work = x; window = y; value = z; locked = false } in
+      let more : length (r .tasks ++ (t ∷ [])) ≡ suc (length (r .tasks)) = omega (arith, length-append (r .tasks) (t ∷ [])) in
+      let unlocked : length (lockBytes (r .tasks ++ (t ∷ [])) 1) ≡ length (lockBytes (r .tasks) 1) = ap length (lockBytes-unlocked (r .tasks) (t ∷ []) 1 refl) in
       omega (arith, ap one (p .going), ap (λ (n : ℕ). taskWidth e * n) more, mul-suc (taskWidth e) (length (r .tasks)))
-  size-after (suc (suc zero)) p =
+
+  -- the policy
+  adds-policy : Adds 2
+  unfolding width after mayFollow inRange
+  adds-policy p =
       let free = both (isZero (r .policy)) (not (isZero (length (r .tasks)))) (p .follows) in
       let some = both (leb 1 x) (leb x 4) (p .ranged) in
       omega (arith, ap one (p .going), given-none (r .policy) (free .0), given-some x (some .0))
-  size-after (suc (suc (suc zero))) p =
+
+  -- the number of states
+  adds-states : Adds 3
+  unfolding width after mayFollow inRange
+  adds-states p =
       let free = both (not (isZero (r .policy))) (isZero (r .states)) (p .follows) in
       let some = both (leb 1 x) (leb x maxStates) (p .ranged) in
       omega (arith, ap one (p .going), given-none (r .states) (free .1), given-some x (some .0))
-  size-after (suc (suc (suc (suc zero)))) p = omega (arith, ap one (p .going), length-append (r .arcs) (record { from = x; label = y; to = z } ∷ []))
-  size-after (suc (suc (suc (suc (suc zero))))) p = omega (arith, ap one (p .going))
-  size-after (suc (suc (suc (suc (suc (suc c)))))) p = absurd (omega (arith, known-le (suc (suc (suc (suc (suc (suc c)))))) (p .known)))
+
+  -- an arc
+  adds-arc : Adds 4
+  unfolding width after
+  adds-arc p = omega (arith, ap one (p .going), length-append (r .arcs) (record { from = x; label = y; to = z } ∷ []))
+
+  -- the end
+  adds-end : Adds 5
+  unfolding width after
+  adds-end p = omega (arith, ap one (p .going))
+
+  -- a lock
+  adds-lock : Adds 9
+  unfolding width after
+  adds-lock p =
+      let same : taskWidth e * length (lockAt (r .tasks) (x - 1)) ≡ taskWidth e * length (r .tasks) = ap (λ (n : ℕ). taskWidth e * n) (lockAt-length (r .tasks) (x - 1)) in
+      omega (arith, ap one (p .going), ap length (lock-last e r x y z p), length-append (lockBytes (r .tasks) 1) (0x09 ∷ x ∷ []))
+
+  -- a command without a fault adds its bytes
+  size-after : (c : ℕ) → Passes e r c x y z → width e c + size e r ≤ size e (after r c x y z)
+  size-after c p = by-command Adds e c (p .known) adds-task adds-policy adds-states adds-arc adds-end (λ has. adds-lock) p
 
 -- where the bytes of the longest command follow, more of them change no fault
 same-fault : (e : Edition) (r : Reading) (m n c x y z : ℕ) → widest e ≤ m → widest e ≤ n → fault e r m c x y z ≡ fault e r n c x y z
 unfolding fault
 same-fault e r m n c x y z hm hn =
-    ap (λ (b : Bool). firstFault (r .ended) (unknown c) (mayFollow r c) b (inRange e r c x y z) (pairRises r c x y))
+    ap (λ (b : Bool). firstFault (r .ended) (unknown e c) (mayFollow r c) b (inRange e r c x y z) (rises r c x y))
     (le-ltb m (width e c) (omega (arith, width-most e c)) ∙ sym (le-ltb n (width e c) (omega (arith, width-most e c))))
 
 -- the last operand is of the bytes of the longest command

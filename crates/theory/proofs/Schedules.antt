@@ -12,16 +12,18 @@ use native.Mathlib.Omega.{arith}
 use lib.Dec.{T, leb, eqb, leb→le, eqb→eq, T-not, not-T}
 use lib.ListN.{length, getD, length-map, List·getD-eq-default}
 use borrow.Author.Tests.{le-leb, eq-eqb}
-use Rattle.model.specs.Lists.{bit, one, sum, upFrom}
+use Rattle.model.specs.Lists.{bit, one, ones, sum, upFrom}
 use Rattle.model.specs.Plan.{Task, Plan, nextIn, IsSound, readPlan, sound}
 use Rattle.model.specs.Slot.{noTask, taskOf}
-use Rattle.model.specs.Schedule.{Schedule, gainFrom, admits, admitsFrom}
+use Rattle.model.specs.Masks.{bitRun, neighbouring}
+use Rattle.model.specs.Schedule.{Unbroken, Schedule, gainFrom, admits, admitsFrom}
 use Rattle.model.specs.Graph.{Node, Edge, start, joined, edgeOf, edges}
 use Rattle.model.specs.Walk.{Walk, here, go, labels, maskAt, Agrees, TrueToSchedules}
 use Rattle.model.proofs.Lists.{mem-getD, getD-table, length-upFrom}
-use Rattle.model.proofs.Tests.{is-false, holds, fails, same-test, left-holds, right-holds}
+use Rattle.model.proofs.Runs.{run-below, neighbouring-run}
+use Rattle.model.proofs.Tests.{is-true, is-false, holds, fails, same-test, left-holds, right-holds}
 use Rattle.theory.proofs.Sums.{sum-same, sum-zero}
-use Rattle.theory.proofs.Bits.{bit-half, zero-no-bit, bit-past, ones-below, no-bit, fromBits, fromBits-lt, bit-fromBits}
+use Rattle.theory.proofs.Bits.{bit-half, zero-no-bit, bit-past, ones-below, no-bit, fromBits, fromBits-lt, bit-fromBits, run-bit, run-of}
 use Rattle.theory.proofs.Edges.{Picked, MaskOf, Fits, mem-edges, joined-bit}
 use Rattle.theory.proofs.Sound.{PlanSound, TaskSound, sound-plan, read-sound, label-below}
 use Rattle.theory.proofs.Walks.{admits-some, walk-admits, walk-kept, walk-ideal, gainOf, gainOf-same, picksOf, maskAt-none, walk-mask, walk-once}
@@ -98,6 +100,19 @@ module _ (P : Plan) (sd : PlanSound P) {v : Node} {es : List Edge} (w : Walk P s
       sum-same _ _ (taskOf (P .tasks) i .window) (λ k _. ap one (gives-at es t i k))
       ∙ sym (ones-below (taskOf (P .tasks) i .window) (taskOf (P .tasks) i .window) (maskAt es t i) (p .below) (omega arith)) ∙ p .size
 
+  -- of a locked task they are the bits of a run, so they lie among C slots in a row
+  unbroken-row : Unbroken (P .tasks) (picksOf es) (givesOf es)
+  unbroken-row t i h l =
+      let p = picked-at t i h .1 in
+      let job = taskOf (P .tasks) i in
+      let r = neighbouring-run (job .window) (maskAt es t i) .0 (p .run (is-true (job .locked) l)) in
+      let run : maskAt es t i ≡ bitRun (job .work) (r .0) = r .2 ∙ ap (λ (c : ℕ). bitRun c (r .0)) (p .size) in (
+        t + r .0,
+        λ s g.
+            let b = gives-bit es s t i g in
+            omega (arith, b .0, run-bit (job .work) (r .0) (s - t) .0 (subst (λ (m : ℕ). T (bit m (s - t))) run (b .1))),
+      )
+
   -- the schedule of a walk
   scheduleOf : Schedule P (labels es)
   scheduleOf = record {
@@ -114,6 +129,7 @@ module _ (P : Plan) (sd : PlanSound P) {v : Node} {es : List Edge} (w : Walk P s
         let g = gives-bit es s t i h in
         (bit-nonzero (maskAt es t i) (s - t) (g .1), g .0, below-window s t i h);
     whole = whole-work;
+    unbroken = unbroken-row;
     once = λ s t i t′ i′ h h′.
         let g = gives-bit es s t i h in
         let g′ = gives-bit es s t′ i′ h′ in
@@ -187,6 +203,21 @@ module _ (P : Plan) (sd : PlanSound P) (run : List ℕ) (σ : Schedule P run) wh
       go true e h = tt
       go false e h = zero-unpicked (unpicked t i (fails e)) h
 
+  -- that of a locked task is a run, since its slots lie among C slots in a row
+  mask-run : (t i : ℕ) → T (σ .picks t i) → maskOf t i < 2 ^ taskOf (P .tasks) i .window →
+      ones (taskOf (P .tasks) i .window) (maskOf t i) ≡ taskOf (P .tasks) i .work → taskOf (P .tasks) i .locked ≡ true →
+      neighbouring (taskOf (P .tasks) i .window) (maskOf t i) ≡ true
+  mask-run t i h below size l =
+      let job = taskOf (P .tasks) i in
+      let row = σ .unbroken t i h (holds l) in
+      let at = row .0 - t in
+      let run = run-of (job .window) (maskOf t i) (job .work) at below size (λ k b. omega (arith, row .1 (t + k) (mask-gives t i k b))) in
+      neighbouring-run (job .window) (maskOf t i) .1 (
+        at,
+        omega (arith, run-below (job .work) at (job .window) (task-of t i h .someWork) (subst (λ (m : ℕ). m < 2 ^ job .window) run below)),
+        run ∙ ap (λ (c : ℕ). bitRun c at) (sym size),
+      )
+
   -- the mask fits its task and label
   mask-fits : (t i : ℕ) → MaskOf (taskOf (P .tasks) i) (bit (getD run t 0) (i - 1)) (maskOf t i)
   unfolding maskOf
@@ -201,12 +232,8 @@ module _ (P : Plan) (sd : PlanSound P) (run : List ℕ) (σ : Schedule P run) wh
       go : (b : Bool) → σ .picks t i ≡ b → MaskOf (taskOf (P .tasks) i) (bit (getD run t 0) (i - 1)) (maskOf t i)
       go true e =
           let h = holds e in
-          inr (record {
-            out = σ .released t i h .3;
-            pos = picked-pos t i h;
-            below = below;
-            size = ones-below D D (maskOf t i) below (omega arith) ∙ mask-sum t i h;
-          })
+          let size = ones-below D D (maskOf t i) below (omega arith) ∙ mask-sum t i h in
+          inr (record { out = σ .released t i h .3; pos = picked-pos t i h; below = below; size = size; run = mask-run t i h below size })
       go false e = inl (unpicked t i (fails e))
 
   -- the masks of a step

@@ -5,28 +5,29 @@ use mathlib.Core.Bool.{Bool, true, false, cond, not, _&&_, _||_, false≢true}
 use mathlib.Core.Logic.{_⊎_, inl, inr, ⊎-elim}
 use mathlib.Core.Option.{some, Option·none-ne-some, Option·some-injective}
 use mathlib.Core.List.{List, [], _∷_, _++_, List·Memᴰ, List·Memᴰ·head, List·Memᴰ·tail, List·Memᴰ·not-nil, List·Memᴰ·append-cases, List·Memᴰ·eq-of-singleton}
-use Prim.Native.Nat.{ℕ, zero, suc, _+_, _^_, _<_, _≤_}
+use Prim.Native.Nat.{ℕ, zero, suc, _+_, _-_, _^_, _<_, _≤_}
 use native.Mathlib.Nat.{lt-of-lt-of-le}
 use native.Mathlib.Omega.{arith}
 use lib.Dec.{leb, ltb, eqb}
 use lib.ListN.{length, getD, drop, length-append}
 use lib.Pow.{pow-mono}
-use borrow.Author.Tests.{leb-true, ltb-true, eqb-true, not-false}
+use borrow.Author.Tests.{leb-true, ltb-true, eqb-true}
 use Rattle.model.specs.Edition.{Edition, longReads}
 use Rattle.model.specs.Limits.{maxTasks, maxStates}
-use Rattle.model.specs.Plan.{Task, Arc, Plan, PlanAnswer, faulty, sound, Reading, nothingRead, isArc, nextIn, unknown, width, mayFollow, taskInRange, arcInRange, inRange, pairBelow, rising, firstFault, fault, after, lastOperand, refusedOr, atEnd, readCommands, readFrom, readPlanIn, IsSoundIn, IsSound}
+use Rattle.model.specs.Plan.{Task, Arc, Plan, PlanAnswer, faulty, sound, Reading, nothingRead, isArc, nextIn, width, mayFollow, taskInRange, arcInRange, inRange, pairBelow, rising, firstFault, fault, withLock, lockAt, after, lastOperand, refusedOr, atEnd, readCommands, readFrom, readPlanIn, IsSoundIn, IsSound}
 use Rattle.model.specs.Bytes.{number}
 use Rattle.model.specs.Refusals.{bytesEnd}
 use Rattle.model.specs.Cases.{planA}
-use Rattle.model.proofs.Plan.{both, Passes, fault-none, arc-ranged}
+use Rattle.model.proofs.Plan.{both, Passes, fault-none, arc-ranged, task-follows, by-command, lockAt-length, lockAt-each}
 
--- a task in range: 1 ≤ C ≤ D, within the limits of the edition
+-- a task in range: 1 ≤ C ≤ D, within the limits of the edition, and locked only where the edition has locks
 pub record TaskSoundIn (e : Edition) (t : Task) : Type 0 where
   pub someWork : 1 ≤ t .work
   pub workFits : t .work ≤ t .window
   pub windowFits : t .window ≤ e .window
   pub someValue : 1 ≤ t .value
   pub valueFits : t .value ≤ e .value
+  pub lockFits : t .locked ≡ true → e .locks ≡ true
 
 abbrev pub TaskSound : Task → Type 0
 TaskSound t = TaskSoundIn longReads t
@@ -91,7 +92,7 @@ held-nothing e = record {
 }
 
 -- the operands of a task in range
-task-ranged : (e : Edition) (c d v : ℕ) → taskInRange e c d v ≡ true → TaskSoundIn e (record { work = c; window = d; value = v })
+task-ranged : (e : Edition) (c d v : ℕ) → taskInRange e c d v ≡ true → TaskSoundIn e (record { work = c; window = d; value = v; locked = false })
 unfolding taskInRange
 task-ranged e c d v h =
     let three = both (leb 1 c && leb c d && leb d (e .window)) (leb 1 v && leb v (e .value)) h in
@@ -104,7 +105,19 @@ task-ranged e c d v h =
       windowFits = leb-true d (e .window) (two .1);
       someValue = leb-true 1 v (value .0);
       valueFits = leb-true v (e .value) (value .1);
+      lockFits = λ k. absurd (false≢true k);
     }
+
+-- a task in range may be locked where the edition has locks
+task-locked : (e : Edition) → e .locks ≡ true → (t : Task) → TaskSoundIn e t → TaskSoundIn e (withLock true t)
+task-locked e has t s = record {
+  someWork = s .someWork;
+  workFits = s .workFits;
+  windowFits = s .windowFits;
+  someValue = s .someValue;
+  valueFits = s .valueFits;
+  lockFits = λ k. has;
+}
 
 -- the test of pairs as a fact
 before-of : (a : Arc) (s l t : ℕ) → pairBelow a s l ≡ true → Before a (record { from = s; label = l; to = t })
@@ -129,26 +142,25 @@ module _ {ℓ κ} {A : Type ℓ} {B : A → Type κ} where
 more-tasks : {m n states : ℕ} {a : Arc} → m ≤ n → ArcSound m states a → ArcSound n states a
 more-tasks h s = record { fromBelow = s .fromBelow; labelBelow = lt-of-lt-of-le (s .labelBelow) (pow-mono h); toBelow = s .toBelow }
 
--- a known command is one of five
-pub known-le : (c : ℕ) → unknown c ≡ false → c ≤ 5
-known-le c h = leb-true c 5 (both (leb 1 c) (leb c 5) (not-false (leb 1 c && leb c 5) h) .1)
-
 -- a number that is not 0
 nonzero : (n : ℕ) → not (eqb n 0) ≡ true → 1 ≤ n
 nonzero zero h = absurd (false≢true h)
 nonzero (suc n) h = omega arith
 
 module _ (e : Edition) (r : Reading) (held : Held e r) (x y z : ℕ) where
-  -- a command without a fault keeps what is held
-  pub held-after : (c : ℕ) → Passes e r c x y z → Held e (after r c x y z)
+  -- the command c, without a fault, keeps what is held
+  abbrev Keeps : ℕ → Type 0
+  Keeps c = Passes e r c x y z → Held e (after r c x y z)
+
+  -- a task
+  keeps-task : Keeps 1
   unfolding after mayFollow inRange
-  held-after zero p = absurd (false≢true (sym (p .known)))
-  held-after (suc zero) p =
-      let two = both (eqb (r .policy) 0) (ltb (length (r .tasks)) maxTasks) (p .follows) in
-      let more : length (r .tasks ++ (record { work = x; window = y; value = z } ∷ [])) ≡ length (r .tasks) + 1 = length-append (r .tasks) (record { work = x; window = y; value = z } ∷ []) in
+  keeps-task p =
+      let t : Task = record { work = x; window = y; value = z; locked = false } in
+      let more : length (r .tasks ++ (t ∷ [])) ≡ length (r .tasks) + 1 = length-append (r .tasks) (t ∷ []) in
       record {
-        tasksFit = omega (arith, ltb-true (length (r .tasks)) maxTasks (two .1));
-        task = all-snoc (r .tasks) (record { work = x; window = y; value = z }) (held .task) (task-ranged e x y z (p .ranged));
+        tasksFit = omega (arith, task-follows r 1 refl (p .follows));
+        task = all-snoc (r .tasks) t (held .task) (task-ranged e x y z (p .ranged));
         policyFits = held .policyFits;
         tasked = λ h. omega arith;
         statesFit = held .statesFit;
@@ -157,7 +169,11 @@ module _ (e : Edition) (r : Reading) (held : Held e r) (x y z : ℕ) where
         rise = held .rise;
         stated = λ k. absurd (false≢true k);
       }
-  held-after (suc (suc zero)) p =
+
+  -- the policy
+  keeps-policy : Keeps 2
+  unfolding after mayFollow inRange
+  keeps-policy p =
       let two = both (eqb (r .policy) 0) (not (eqb (length (r .tasks)) 0)) (p .follows) in
       let range = both (leb 1 x) (leb x 4) (p .ranged) in
       record {
@@ -171,7 +187,11 @@ module _ (e : Edition) (r : Reading) (held : Held e r) (x y z : ℕ) where
         rise = held .rise;
         stated = λ k. absurd (false≢true k);
       }
-  held-after (suc (suc (suc zero))) p =
+
+  -- the number of states
+  keeps-states : Keeps 3
+  unfolding after mayFollow inRange
+  keeps-states p =
       let two = both (not (eqb (r .policy) 0)) (eqb (r .states) 0) (p .follows) in
       let range = both (leb 1 x) (leb x maxStates) (p .ranged) in
       record {
@@ -185,7 +205,11 @@ module _ (e : Edition) (r : Reading) (held : Held e r) (x y z : ℕ) where
         rise = held .rise;
         stated = λ k. absurd (false≢true k);
       }
-  held-after (suc (suc (suc (suc zero)))) p =
+
+  -- an arc
+  keeps-arc : Keeps 4
+  unfolding after
+  keeps-arc p =
       let range = arc-ranged e r 4 x y z refl (p .ranged) in
       record {
         tasksFit = held .tasksFit;
@@ -195,10 +219,14 @@ module _ (e : Edition) (r : Reading) (held : Held e r) (x y z : ℕ) where
         statesFit = held .statesFit;
         policied = held .policied;
         arc = all-snoc (r .arcs) (record { from = x; label = y; to = z }) (held .arc) (record { fromBelow = range .0; labelBelow = range .1; toBelow = range .2 });
-        rise = rise-snoc (r .arcs) x y z (held .rise) (p .rises);
+        rise = rise-snoc (r .arcs) x y z (held .rise) (p .above);
         stated = λ k. absurd (false≢true k);
       }
-  held-after (suc (suc (suc (suc (suc zero))))) p = record {
+
+  -- the end
+  keeps-end : Keeps 5
+  unfolding after mayFollow
+  keeps-end p = record {
     tasksFit = held .tasksFit;
     task = held .task;
     policyFits = held .policyFits;
@@ -209,7 +237,27 @@ module _ (e : Edition) (r : Reading) (held : Held e r) (x y z : ℕ) where
     rise = held .rise;
     stated = λ k. nonzero (r .states) (p .follows);
   }
-  held-after (suc (suc (suc (suc (suc (suc c)))))) p = absurd (omega (arith, known-le (suc (suc (suc (suc (suc (suc c)))))) (p .known)))
+
+  -- a lock
+  keeps-lock : e .locks ≡ true → Keeps 9
+  unfolding after
+  keeps-lock has p =
+      let same : length (lockAt (r .tasks) (x - 1)) ≡ length (r .tasks) = lockAt-length (r .tasks) (x - 1) in
+      record {
+        tasksFit = omega (arith, held .tasksFit);
+        task = lockAt-each (task-locked e has) (r .tasks) (x - 1) (held .task);
+        policyFits = held .policyFits;
+        tasked = λ h. omega (arith, held .tasked h);
+        statesFit = held .statesFit;
+        policied = held .policied;
+        arc = λ a m. more-tasks (omega arith) (held .arc a m);
+        rise = held .rise;
+        stated = λ k. absurd (false≢true k);
+      }
+
+  -- a command without a fault keeps what is held
+  pub held-after : (c : ℕ) → Passes e r c x y z → Held e (after r c x y z)
+  held-after c p = by-command Keeps e c (p .known) keeps-task keeps-policy keeps-states keeps-arc keeps-end keeps-lock p
 
 -- where the commands end, the plan is sound
 sound-end : (e : Edition) (r : Reading) (P : Plan) → Held e r → atEnd r ≡ sound P → PlanSoundIn e P
@@ -299,7 +347,7 @@ pub planA-sound : (P : Plan) × IsSound P
 unfolding number readPlanIn readFrom firstFault fault after width lastOperand mayFollow inRange taskInRange arcInRange
 planA-sound = (
   record {
-    tasks = record { work = 1; window = 1; value = 1 } ∷ [];
+    tasks = record { work = 1; window = 1; value = 1; locked = false } ∷ [];
     policy = 1;
     states = 1;
     arcs = record { from = 0; label = 0; to = 0 } ∷ record { from = 0; label = 1; to = 0 } ∷ [];

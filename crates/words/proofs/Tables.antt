@@ -1,20 +1,17 @@
 -- Laws of a table that a loop writes, one entry a turn.
 -- Assumes nothing.
 use mathlib.Core.Path.{_≡_, sym, _∙_, ap}
-use mathlib.Core.List.{List, [], _∷_, _++_, map, map-append}
+use mathlib.Core.List.{List, map}
 use Prim.Native.Nat.{ℕ, _+_, _<_}
 use native.Mathlib.Omega.{arith}
 use lib.ListN.{length, set, length-map}
 use Rattle.model.specs.Bytes.{overwrite}
 use Rattle.model.specs.Lists.{upFrom}
-use Rattle.model.proofs.Lists.{length-upFrom, upFrom-append}
+use Rattle.model.proofs.Lists.{length-upFrom, table-from}
 use Rattle.words.proofs.Memory.{overwrite-all, overwrite-more}
 
 -- a table that is written from its front, one store a turn
 module _ (f : ℕ → ℕ) (i : ℕ) (before : List ℕ) where
-  table-more : (k : ℕ) → map f (upFrom i (k + 1)) ≡ map f (upFrom i k) ++ (f (i + k) ∷ [])
-  table-more k = ap (map f) (upFrom-append i k 1) ∙ map-append f (upFrom i k) (upFrom (i + k) 1)
-
   size : (k : ℕ) → length (map f (upFrom i k)) ≡ k
   size k = length-map (upFrom i k) f ∙ length-upFrom i k
 
@@ -23,7 +20,7 @@ module _ (f : ℕ → ℕ) (i : ℕ) (before : List ℕ) where
   written-more at k p j ep ej lt e w =
       (λ x. set (w x) (ep x) ((e ∙ ap f ej) x))
       ∙ overwrite-more before at (map f (upFrom i k)) k (f (i + k)) (size k) (omega arith)
-      ∙ ap (overwrite before at) (sym (table-more k))
+      ∙ ap (overwrite before at) (sym (table-from f i k))
 
   pub written-all : (k n : ℕ) {now : List ℕ} → k ≡ n → n ≡ length before → now ≡ overwrite before 0 (map f (upFrom i k)) → now ≡ map f (upFrom i n)
   written-all k n e fits w =

@@ -13,7 +13,7 @@ use Rattle.model.specs.Bytes.{overwrite}
 use Rattle.model.specs.Edition.{longReads}
 use Rattle.model.specs.Certificate.{Certificate, certificateBytes}
 use Rattle.model.specs.Graph.{Edge}
-use Rattle.model.proofs.Lists.{flatMap-length}
+use Rattle.model.proofs.Lists.{flatMap-length, table-more}
 use Rattle.theory.specs.Lightest.{stepOf}
 use Rattle.theory.proofs.Form.{potentialBytes}
 use Rattle.theory.proofs.Settled.{length-distances}
@@ -21,7 +21,6 @@ use Rattle.certificate.specs.View.{headSize, potentialSize, cycleSize, stepSize
 use Rattle.certificate_bytes.specs.Pieces.{headBytes, nodeBytes, endBytes}
 use Rattle.certificate_bytes.proofs.Pieces.{certificate-pieces, head-length, potential-length, potentials-length, front-length, node-length}
 use Rattle.certificate_bytes.proofs.Pieces.{overwrite-then, overwrite-piece}
-use Rattle.graph.proofs.Tables.{table-more}
 use Rattle.links.specs.Links.{linkIn, stateIn}
 use Rattle.circuit.specs.Circuit.{stepsBytes}
 use Rattle.circuit.proofs.Steps.{edgeBytes, edge-length, edges-bytes}

@@ -6,6 +6,9 @@ use denote.Ref.{now}
 use Prim.Native.Nat.{_≤_}
 use lib.ListN.{length}
 use Rattle.model.specs.Edition.{Edition, planRoomIn}
+use Rattle.node.specs.Edition.{editionOf}
+use Rattle.plan.specs.View.{planOf}
+use Rattle.convert.proofs.Tasks.{locks-said}
 use Rattle.convert.proofs.Answers.{not-said, said}
 use borrow.Author.Tests.{not-true, not-false}
 use borrow.Author.Needs.{needs}
@@ -23,9 +26,11 @@ returns c = not-said (c .before .before .before .before .args .plan) _ (rw (c .b
 
 write-in-requires : tie.Need-write-in-requires
 write-in-requires c κs =
-    let first = c .before .before .before .first .ensures in
-    let s = c .before .before .before .before .before in
-    (inl (ap (λ (e : Edition). e .valueWidth) first), s .pre .0, subst (λ (e : Edition). planRoomIn e ≤ length (now (s .args .out))) (sym first) (s .pre .1))
+    let t = c .before .before in
+    let first = t .before .first .ensures in
+    let s = t .before .before .before in
+    let locks = locks-said (editionOf (t .before .first .result)) (planOf (s .args .plan) .tasks) (sym (t .says-all .ensures) ∙ not-false _ (c .before .if1 .left)) in
+    (inl (ap (λ (e : Edition). e .valueWidth) first), s .pre .0, locks, subst (λ (e : Edition). planRoomIn e ≤ length (now (s .args .out))) (sym first) (s .pre .1))
 
 same-length : tie.Need-same-length
 same-length c = search needs

@@ -12,8 +12,6 @@ use borrow.Fn.PlainCycle.{Measures, is, falls, and}
 use Rattle.model.specs.Bytes.{part}
 use Rattle.model.specs.Masks.{maskCount}
 use Rattle.words.specs.Packed.{fieldBase}
-use Rattle.masks.proofs.list_clear.Reads as list-clear-reads
-use Rattle.masks.specs.Clear.{clearIn}
 use Rattle.graph.proofs.note_masks.Reads as note-masks
 use Rattle.graph.proofs.note_masks.Kinds as note-masks-kinds
 use Rattle.graph.proofs.+note_masks+note_task.Lts-note_masks as note-masks-lts
@@ -22,10 +20,11 @@ use Rattle.graph.proofs.note_task.Kinds as note-task-kinds
 use Rattle.graph.proofs.+note_masks+note_task.Lts-note_task as note-task-lts
 use Rattle.graph.proofs.note.Reads as note-reads
 use Rattle.graph.proofs.wide.Reads as wide-reads
+use Rattle.graph.proofs.list_masks.Reads as list-masks-reads
 use Rattle.graph.specs.Outcomes.{listPlace, Noting}
-use Rattle.graph.specs.Offers.{spanStartIn, spanEndIn, valueIn, taskCount, wantedIn, offered, offeredWith, Carries, Listed}
+use Rattle.graph.specs.Offers.{masksOffered, valueIn, taskCount, wantedIn, offered, offeredWith, Carries, Listed}
 use Rattle.graph.proofs.Notes.{keeps-refl}
-use Rattle.graph.proofs.Choices.{noting-none, noting-append, noting-fewer, list-noting, offered-last, offered-next, with-none, with-more, carries-idle, carries-masks, moved-fits, carries-mask, joined-fits, listed-clear, listed-later, part-kept}
+use Rattle.graph.proofs.Choices.{noting-none, noting-append, noting-fewer, list-noting, offered-last, offered-next, with-none, with-more, carries-idle, carries-masks, moved-fits, carries-mask, joined-fits, offered-low, listed-masks, listed-later, part-kept}
 use Rattle.graph.proofs.+note_masks+note_task.{statement}
 use Rattle.graph.proofs.+note_masks+note_task.Tie.{close}
 
@@ -63,8 +62,8 @@ task-claims t = (
   note-reads.Learnt,
   note-task-below t,
   note-task.Post,
-  list-clear-reads.Asked,
-  list-clear-reads.Learnt,
+  list-masks-reads.Asked,
+  list-masks-reads.Learnt,
   note-masks-below t,
   note-masks.Post,
 )
@@ -201,113 +200,87 @@ note-task-add-from t c =
     let p = c .before .before .before .before .pre .1 in
     omega (arith, p .2 .task, p .1 .few)
 
-note-task-mul-list-clear : (t : ℕ) → note-task-lts.Need-mul-list-clear (task-claims t) (note-task-at t) note-task.Post
-note-task-mul-list-clear t c =
-    let p = c .before .before .before .before .pre .1 in
-    omega (arith, p .2 .task, p .1 .few)
-
-note-task-element-copy-out-list-clear : (t : ℕ) → note-task-lts.Need-element-copy-out-list-clear (task-claims t) (note-task-at t) note-task.Post
-note-task-element-copy-out-list-clear t c =
-    let p = c .before .before .before .before .pre .1 in
-    omega (arith, p .2 .task, p .1 .few)
-
-note-task-add-list-clear : (t : ℕ) → note-task-lts.Need-add-list-clear (task-claims t) (note-task-at t) note-task.Post
-note-task-add-list-clear t c =
-    let p = c .before .before .before .before .before .pre .1 in
-    omega (arith, p .2 .task, p .1 .few)
-
-note-task-mul-list-clear-2 : (t : ℕ) → note-task-lts.Need-mul-list-clear-2 (task-claims t) (note-task-at t) note-task.Post
-note-task-mul-list-clear-2 t c =
-    let p = c .before .before .before .before .before .pre .1 in
-    omega (arith, p .2 .task, p .1 .few)
-
-note-task-element-copy-out-list-clear-2 :
-    (t : ℕ) → note-task-lts.Need-element-copy-out-list-clear-2 (task-claims t) (note-task-at t) note-task.Post
-note-task-element-copy-out-list-clear-2 t c =
-    let p = c .before .before .before .before .before .pre .1 in
-    omega (arith, p .2 .task, p .1 .few)
-
-note-task-list-clear-requires : (t : ℕ) → note-task-lts.Need-list-clear-requires (task-claims t) (note-task-at t) note-task.Post
-note-task-list-clear-requires t c κs =
-    let s = c .before .before .before .before .before .before .before in
-    let i = s .args .task in
+note-task-list-masks-requires : (t : ℕ) → note-task-lts.Need-list-masks-requires (task-claims t) (note-task-at t) note-task.Post
+note-task-list-masks-requires t c κs =
+    let s = c .before .before .before .before .before in
     let p = s .pre .1 in
-    let lt = below (c .before .before .before .before .before .if1 .left) (p .2 .task) in
-    let n = c .before .before .before .note-task .ensures in
-    (p .0, p .1 .order i lt, p .1 .within i lt, omega (arith, n .room .room, p .1 .within i lt, p .1 .few))
+    let lt = below (c .before .before .before .if1 .left) (p .2 .task) in
+    (p .0, p .1, lt, omega (arith, c .before .note-task .ensures .room .room, p .1 .few))
 
 note-task-add-more : (t : ℕ) → note-task-lts.Need-add-more (task-claims t) (note-task-at t) note-task.Post
 note-task-add-more t c =
-    let p = c .before .before .before .before .before .before .before .before .pre .1 in
+    let p = c .before .before .before .before .before .before .pre .1 in
     omega (arith, p .2 .task, p .1 .few)
 
 note-task-mul-more : (t : ℕ) → note-task-lts.Need-mul-more (task-claims t) (note-task-at t) note-task.Post
 note-task-mul-more t c =
-    let p = c .before .before .before .before .before .before .before .before .pre .1 in
+    let p = c .before .before .before .before .before .before .pre .1 in
     omega (arith, p .2 .task, p .1 .few)
 
 note-task-element-copy-out-more : (t : ℕ) → note-task-lts.Need-element-copy-out-more (task-claims t) (note-task-at t) note-task.Post
 note-task-element-copy-out-more t c =
-    let p = c .before .before .before .before .before .before .before .before .pre .1 in
+    let p = c .before .before .before .before .before .before .pre .1 in
     omega (arith, p .2 .task, p .1 .few)
 
 note-task-cast-more : (t : ℕ) → note-task-lts.Need-cast-more (task-claims t) (note-task-at t) note-task.Post
 note-task-cast-more t c =
-    let s = c .before .before .before .before .before .before .before .before .before in
+    let s = c .before .before .before .before .before .before .before in
     let p = s .pre .1 in
-    record { fits = omega (arith, p .1 .value (s .args .task) (below (c .before .before .before .before .before .before .before .if1 .left) (p .2 .task))) }
+    record { fits = omega (arith, p .1 .value (s .args .task) (below (c .before .before .before .before .before .if1 .left) (p .2 .task))) }
 
 note-task-add-more-2 : (t : ℕ) → note-task-lts.Need-add-more-2 (task-claims t) (note-task-at t) note-task.Post
 note-task-add-more-2 t c =
-    let s = c .before .before .before .before .before .before .before .before .before in
+    let s = c .before .before .before .before .before .before .before in
     let p = s .pre .1 in
-    record { fits = omega (arith, p .1 .value (s .args .task) (below (c .before .before .before .before .before .before .before .if1 .left) (p .2 .task)), p .2 .gain, p .2 .task, p .1 .few) }
+    record { fits = omega (arith, p .1 .value (s .args .task) (below (c .before .before .before .before .before .if1 .left) (p .2 .task)), p .2 .gain, p .2 .task, p .1 .few) }
 
 note-task-note-masks-requires : (t : ℕ) → note-task-lts.Need-note-masks-requires (task-claims t) (note-task-at t) note-task.Post
 note-task-note-masks-requires t c κs =
-    let s = c .before .before .before .before .before .before .before .before .before .before in
+    let s = c .before .before .before .before .before .before .before .before in
     let a = s .args in
+    let o = a .offers .now in
     let i = a .task in
     let p = s .pre .1 in
-    let lt = below (c .before .before .before .before .before .before .before .before .if1 .left) (p .2 .task) in
-    let n = c .before .before .before .before .before .before .note-task in
-    let cleared = c .before .before .list-clear in
-    let listed = list-noting (wantedIn (a .offers .now)) (n .last .1 .1 .1 .1 .1 .1 .0) (cleared .last .1 .1 .1 .1 .0) (listPlace i) (spanEndIn (a .offers .now) i - spanStartIn (a .offers .now) i) (n .result)
-    (omega arith) (omega (arith, p .1 .within i lt, p .1 .few)) (cleared .ensures .only) (n .ensures .room) in (
-      omega (arith, s .pre .0, cleared .ensures .ends, p .1 .within i lt),
+    let lt = below (c .before .before .before .before .before .before .if1 .left) (p .2 .task) in
+    let n = c .before .before .before .before .note-task in
+    let list = c .before .before .list-masks in
+    let m₁ = n .last .1 .1 .1 .1 .1 .1 .0 in
+    let m₂ = list .last .1 .1 .1 .1 .0 in
+    let listed = list-noting (wantedIn o) m₁ m₂ (listPlace i) maskCount (n .result) (omega arith) (omega (arith, p .1 .few)) (list .ensures .only) (n .ensures .room) in (
+      omega (arith, s .pre .0, list .ensures .ends),
       (
         p .0,
         p .1,
         carries-masks (p .1) lt (p .2),
         listed .room,
-        listed-clear (a .pattern) (spanStartIn (a .offers .now) i) (spanEndIn (a .offers .now) i) i (n .last .1 .1 .1 .1 .1 .1 .0) (cleared .last .1 .1 .1 .1 .0) (cleared .result) (omega (arith, p .1 .within i lt)) (omega (arith, p .1 .few)) (n .ensures .room .room) (cleared .ensures),
+        listed-masks (masksOffered o i (a .pattern)) (offered-low o i (a .pattern) (p .1 .span i lt)) i m₁ m₂ (list .result) (omega (arith, p .1 .few)) (n .ensures .room .room) (list .ensures),
       ),
     )
 
 note-task-returns-2 : (t : ℕ) → note-task-lts.Need-returns-2 (task-claims t) (note-task-at t) note-task.Post
 note-task-returns-2 t c =
-    let s = c .before .before .before .before .before .before .before .before .before .before .before in
+    let s = c .before .before .before .before .before .before .before .before .before in
     let a = s .args in
     let o = a .offers .now in
     let i = a .task in
     let p = s .pre .1 in
     let k = taskCount o - (i + 1) in
-    let lt = below (c .before .before .before .before .before .before .before .before .before .if1 .left) (p .2 .task) in
-    let n = c .before .before .before .before .before .before .before .note-task in
+    let lt = below (c .before .before .before .before .before .before .before .if1 .left) (p .2 .task) in
+    let n = c .before .before .before .before .before .note-task in
     let m₁ = n .last .1 .1 .1 .1 .1 .1 .0 in
-    let cleared = c .before .before .before .list-clear in
-    let m₂ = cleared .last .1 .1 .1 .1 .0 in
+    let list = c .before .before .before .list-masks in
+    let m₂ = list .last .1 .1 .1 .1 .0 in
     let masks = c .note-masks in
     let m₃ = masks .last .1 .1 .1 .1 .1 .1 .0 in
     let place = listPlace i in
-    let listed = list-noting (wantedIn o) m₁ m₂ place (spanEndIn o i - spanStartIn o i) (n .result) (omega arith) (omega (arith, p .1 .within i lt, p .1 .few)) (cleared .ensures .only) (n .ensures .room) in
+    let listed = list-noting (wantedIn o) m₁ m₂ place maskCount (n .result) (omega arith) (omega (arith, p .1 .few)) (list .ensures .only) (n .ensures .room) in
     let later = subst (λ (l : List ℕ). Noting (wantedIn o) (offeredWith o k (i + 1) (a .pattern) (a .gain + valueIn o i) (a .masks * fieldBase) l) (listPlace (i + 1)) m₂ (n .result) m₃ (masks .result))
-    (cleared .ensures .masks) (masks .ensures) in
+    (list .ensures .listed) (masks .ensures) in
     rw (offered-next o i (a .pattern) (a .gain) (a .masks) lt)
     (noting-append (wantedIn o) place (offered o k (i + 1) (a .pattern) (a .gain) (a .masks * fieldBase))
-    (offeredWith o k (i + 1) (a .pattern) (a .gain + valueIn o i) (a .masks * fieldBase) (clearIn (a .pattern) (spanStartIn o i) (spanEndIn o i)))
+    (offeredWith o k (i + 1) (a .pattern) (a .gain + valueIn o i) (a .masks * fieldBase) (masksOffered o i (a .pattern)))
     (a .notes .now) (a .count) m₁ (n .result) m₃ (masks .result) (noting-fewer place (omega arith) (n .ensures))
-    (noting-append (wantedIn o) place [] (offeredWith o k (i + 1) (a .pattern) (a .gain + valueIn o i) (a .masks * fieldBase) (clearIn (a .pattern) (spanStartIn o i) (spanEndIn o i)))
+    (noting-append (wantedIn o) place [] (offeredWith o k (i + 1) (a .pattern) (a .gain + valueIn o i) (a .masks * fieldBase) (masksOffered o i (a .pattern)))
     m₁ (n .result) m₂ (n .result) m₃ (masks .result) listed (noting-fewer place (omega arith) later)))
 
 pub +note-masks+note-task-spec : {M : Type 1} → statement M
@@ -336,12 +309,7 @@ pub +note-masks+note-task-spec : {M : Type 1} → statement M
     (note-task-note-task-requires t)
     (note-task-mul-from t)
     (note-task-add-from t)
-    (note-task-mul-list-clear t)
-    (note-task-element-copy-out-list-clear t)
-    (note-task-add-list-clear t)
-    (note-task-mul-list-clear-2 t)
-    (note-task-element-copy-out-list-clear-2 t)
-    (note-task-list-clear-requires t)
+    (note-task-list-masks-requires t)
     (note-task-add-more t)
     (note-task-mul-more t)
     (note-task-element-copy-out-more t)

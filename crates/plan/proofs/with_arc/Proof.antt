@@ -20,7 +20,7 @@ arc-of-pair s l t h = λ i. record { from = pair-state s l h i; label = pair-lab
 
 arc-read : (r : Reading) (next : List ℕ) (s l t : ℕ) → ReadableArc r next s l t →
     Reads r
-    (record { tasks = r .tasks; count = r .count; policy = r .policy; states = r .states; least = s * labelCount + l + 1; ended = r .ended })
+    (record { tasks = r .tasks; count = r .count; lock = r .lock; policy = r .policy; states = r .states; least = s * labelCount + l + 1; ended = r .ended })
     next (set next (s * labelCount + l) (t + 1)) 4 s l t
 unfolding after
 arc-read r next s l t h =
@@ -31,7 +31,7 @@ arc-read r next s l t h =
     ∙ arcs-add next (r .least) k t (h .holds) (h .rises) fits
     ∙ ap (λ (a : Arc). arcsIn next ++ (a ∷ [])) (arc-of-pair s l t (h .label)) in
     record {
-      within = record { fits = h .within .fits; room = h .within .room; spare = h .within .spare; states = h .within .states };
+      within = record { fits = h .within .fits; room = h .within .room; spare = h .within .spare; locks = h .within .locks; states = h .within .states };
       holds = rw (add-one t, add-one k) (holds-add next (r .least) k t (h .holds) (h .rises) fits);
       reading = λ i. record { tasks = tasksOf (r .tasks) (r .count); policy = r .policy; states = r .states; arcs = arcs i; ended = h .going i };
     }

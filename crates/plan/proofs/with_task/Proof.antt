@@ -1,6 +1,7 @@
 -- `plan::with_task` meets its contract: the store is at the end of the tasks given.
 -- Assumes nothing.
 use mathlib.Core.Path.{_≡_, refl, ap, _∙_}
+use mathlib.Core.Bool.{false}
 use mathlib.Core.List.{List, [], _∷_, _++_, map, map-append}
 use borrow.Author.Needs.{needs}
 use Prim.Native.Nat.{ℕ, _+_, _<_}
@@ -11,6 +12,7 @@ use lib.Seq.{take-suc-set, getD-set-other}
 use Rattle.model.specs.Plan.{after}
 use Rattle.plan.specs.declared.Task.{Task}
 use Rattle.plan.specs.View.{emptyTask, taskView, tasksOf}
+use Rattle.plan.proofs.View.{locks-task}
 use Rattle.plan.proofs.with_task.Statement.{statement}
 use Rattle.plan.proofs.with_task.Tie as tie
 
@@ -38,11 +40,12 @@ returns c = record {
     fits = omega (arith, c .pre .room refl);
     room = length-set (c .args .r .tasks) (c .args .r .count) _ ∙ c .pre .within .room;
     spare = λ k h. getD-set-other (c .args .r .tasks) (c .args .r .count) k _ emptyTask (omega arith) ∙ c .pre .within .spare k (omega arith);
+    locks = locks-task (c .args .r .tasks) (c .args .r .count) (c .args .r .lock) _ (room c) refl (c .pre .within .locks);
     states = c .pre .within .states;
   };
   least = refl;
   reading = λ arcs i. record {
-    tasks = task-added (c .args .r .tasks) (c .args .r .count) (record { work = c .args .c; window = c .args .d; value = c .args .v }) (room c) i;
+    tasks = task-added (c .args .r .tasks) (c .args .r .count) (record { work = c .args .c; window = c .args .d; value = c .args .v; locked = false }) (room c) i;
     policy = c .args .r .policy;
     states = c .args .r .states;
     arcs = arcs;

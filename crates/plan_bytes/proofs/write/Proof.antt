@@ -17,7 +17,7 @@ write-in-requires : tie.Need-write-in-requires
 write-in-requires c κs =
     let long = c .long-reads .ensures in
     let s = c .before .before .before in
-    (inr (ap (λ (e : Edition). e .valueWidth) long), s .pre .0, subst (λ (e : Edition). planRoomIn e ≤ length (now (s .args .out))) (sym long) (s .pre .1))
+    (inr (ap (λ (e : Edition). e .valueWidth) long), s .pre .0, λ t m h. ap (λ (e : Edition). e .locks) long, subst (λ (e : Edition). planRoomIn e ≤ length (now (s .args .out))) (sym long) (s .pre .1))
 
 same-length : tie.Need-same-length
 same-length c = search needs

@@ -3,11 +3,12 @@
 use mathlib.Core.Path.{_≡_, sym, ap, _∙_}
 use mathlib.Core.List.{_++_}
 use Prim.Native.Nat.{_<_}
-use Rattle.model.specs.Slot.{newJobs}
-use Rattle.policy.specs.View.{Tasks, slotCells, jobsOf, tasksIn, Leaves, Ruled, joinedCells, firstCell}
+use Rattle.model.specs.Slot.{key, newJobs}
+use Rattle.policy.specs.View.{Tasks, slotCells, jobsOf, tasksIn, Leaves, Ruled, joinedCells, firstCell, runnableCells}
 use Rattle.policy.proofs.Cells.{worked-leaves, aged-leaves}
 use Rattle.policy.proofs.NewJobs.{joined-leaves}
-use Rattle.policy.proofs.Keys.{Chosen, first-cell}
+use Rattle.policy.proofs.Keys.{Chosen}
+use Rattle.policy.proofs.Held.{chosen-cell}
 use Rattle.policy.proofs.Rule.{slot-idle, slot-ran}
 use borrow.Author.Needs.{needs}
 use native.Mathlib.Omega.{arith}
@@ -15,7 +16,10 @@ use Rattle.policy.proofs.slot.Statement.{statement}
 use Rattle.policy.proofs.slot.Tie as tie
 
 abbrev start : tie.After-join → tie.Start
-start d = d .before .before .before
+start d = d .before .before .before .before
+
+abbrev joined : tie.After-choose → tie.After-join
+joined c = c .before .before .before .before .before
 
 abbrev tasks : tie.After-join → Tasks
 tasks d = tasksIn (start d .args .rules)
@@ -29,22 +33,29 @@ module _ (d : tie.After-join) where
   entered = joined-leaves (tasks d) (start d .args .cells) (start d .args .label) (ruled .tasks) (start d .pre .1) (d .join .ensures)
 
 -- the job that is chosen
-chosen : (c : tie.After-choose) → Chosen (tasks (c .before .before .before)) (start (c .before .before .before) .args .rules .policy) (c .before .before .before .join .result) (c .choose .result)
+chosen : (c : tie.After-choose) → Chosen (tasks (joined c)) (key (tasks (joined c)) (start (joined c) .args .rules .policy)) (joined c .join .result) (c .choose .result)
 chosen c =
-    let d = c .before .before .before in
-    first-cell (tasks d) (start d .args .rules .policy) (ruled d .tasks) _ (ruled d .left) (d .join .result) (entered d .cells) (c .choose .ensures)
+    let d = joined c in
+    chosen-cell (tasks d) _ (ruled d .hold) (d .join .result) (entered d .cells) (start d .args .rules .policy) (ruled d .tasks) _ (ruled d .left)
+    (c .choose .ensures ∙ ap (λ pool. firstCell (start d .args .rules .policy) pool (start d .args .rules .left)) (c .before .before .before .runnable .ensures))
 
-first-in : (c : tie.After-choose) → c .choose .result ≡ firstCell (start (c .before .before .before) .args .rules .policy)
-    (joinedCells (tasks (c .before .before .before)) (start (c .before .before .before) .args .cells) (start (c .before .before .before) .args .label)) (start (c .before .before .before) .args .rules .left)
+first-in : (c : tie.After-choose) → c .choose .result
+    ≡ firstCell (start (joined c) .args .rules .policy)
+    (runnableCells (joinedCells (tasks (joined c)) (start (joined c) .args .cells) (start (joined c) .args .label)) (start (joined c) .args .rules .hold)) (start (joined c) .args .rules .left)
 first-in c =
-    let d = c .before .before .before in
-    c .choose .ensures ∙ ap (λ cells. firstCell (start d .args .rules .policy) cells (start d .args .rules .left)) (d .join .ensures)
+    let r = start (joined c) .args .rules in
+    c .choose .ensures
+    ∙ ap (λ pool. firstCell (r .policy) pool (r .left))
+    (c .before .before .before .runnable .ensures ∙ ap (λ cells. runnableCells cells (r .hold)) (joined c .join .ensures))
 
 inside : (c : tie.Else1) → c .before .choose .result < slotCells
 inside c = omega (arith, chosen (c .before) .bound, c .if1 .left)
 
 join-requires : tie.Need-join-requires
 join-requires c κs = search needs
+
+runnable-requires : tie.Need-runnable-requires
+runnable-requires c κs = search needs
 
 choose-requires : tie.Need-choose-requires
 choose-requires c κs = search needs
@@ -55,7 +66,7 @@ age-requires c κs = search needs
 returns : tie.Need-returns
 returns c =
     let ch = c .before .before .before .before in
-    let d = ch .before .before .before in
+    let d = joined ch in
     let aged = aged-leaves (tasks d) (ruled d .tasks) _ (ruled d .left) (d .join .result) (entered d .cells) (c .age .ensures) in
     record {
       rule = λ P same by. slot-idle P (tasks d) _ same by _ _ (d .join .result) (entered d .jobs) (ch .choose .result) (c .before .before .before .if1 .taken) (chosen ch .choice) _ (aged .jobs);
@@ -82,7 +93,7 @@ returns-2 : tie.Need-returns-2
 returns-2 c =
     let other = c .before .before .before .before .before in
     let ch = other .before in
-    let d = ch .before .before .before in
+    let d = joined ch in
     let run = c .before .before .before .run in
     let ran = worked-leaves (tasks d) (d .join .result) (ch .choose .result) (entered d .cells) (inside other) (chosen ch .work (inside other)) (run .ensures) in
     let aged = aged-leaves (tasks d) (ruled d .tasks) _ (ruled d .left) (run .result) (ran .cells) (c .age2 .ensures) in
@@ -97,6 +108,7 @@ slot-spec =
     tie.close
     (tie.spec
     join-requires
+    runnable-requires
     choose-requires
     age-requires
     returns
