@@ -1,6 +1,6 @@
 /* Calls the library as a C program does: solves case B, checks the certificate, traces labels 2, 1, 0 and 3, 0, and the first with task 2
    locked, gives task 1 a gap of two slots, combines case B with that plan, sends it back to the first edition and forth again, widens and
-   checks a certificate of the first edition, and sees that refusals leave memory as it was. */
+   checks a certificate of the first edition, writes to case B's register block, and sees that refusals leave memory as it was. */
 #include <stdio.h>
 #include <string.h>
 
@@ -47,6 +47,10 @@ int main(void) {
                                     0, 0, 18, 0, 0, 0, 0, 0, 0, 0, 1, 18, 0, 0, 0, 0, 0, 0, 0, 1, 19, 0, 4, 20, 2, 0, 0, 0, 0, 20, 2, 0, 3, 0, 0, 21};
     static const uint8_t steps[] = {20, 2, 0, 0, 0, 0, 0, 0, 0, 0, 20, 2, 0, 0, 0, 3, 0, 0, 0, 0, 21};
     static const uint8_t other[] = {1, 1, 1, 0, 1, 2, 1, 3, 1, 5};
+    static const uint8_t writes[] = {3, 1, 0, 2, 1, 1, 0, 1, 1, 1, 0, 4, 1, 1, 1, 2};
+    static const uint8_t after_two[] = {0, 0, 1, 1, 1, 1, 0, 0, 0, 0, 0, 1, 0, 0, 0, 0};
+    static const uint8_t after_all[] = {0, 0, 2, 1, 0, 0, 0, 0, 0, 0, 0, 1, 0, 0, 0, 0};
+    uint8_t registers[16];
     uint64_t numbers[4] = {7, 7, 7, 7};
     uint64_t passes[1] = {7};
     uint64_t n;
@@ -122,6 +126,14 @@ int main(void) {
     numbers[0] = numbers[1] = numbers[2] = numbers[3] = 7;
     expect(jovnetal_check(again, sizeof plan, certificate, n, work, sizeof work, numbers) == 0, "the certificate is accepted, widened, for the plan sent forth");
     expect(numbers[0] == 0 && numbers[1] == 1 && numbers[2] == 5 && numbers[3] == 0, "with the numbers of case B");
+
+    memset(registers, 7, sizeof registers);
+    expect(jovnetal_block(plan, 3, writes, sizeof writes, registers) == 1 && all(registers, sizeof registers, 7), "a plan cut off is refused with 1, and the registers are as they were");
+    expect(jovnetal_block(plan, sizeof plan, writes, 0, registers) == 0 && all(registers, sizeof registers, 0), "a fresh block is all zero");
+    expect(jovnetal_block(plan, sizeof plan, writes, 10, registers) == 0 && memcmp(registers, after_two, sizeof after_two) == 0, "task 1 ran and is done, which the mask shows, and the gain is 1");
+    expect(jovnetal_block(plan, sizeof plan, writes, 14, registers) == 0 && memcmp(registers, after_all, sizeof after_all) == 0, "a label that is not admitted passes no slot");
+    expect(jovnetal_block(plan, sizeof plan, writes, 15, registers) == 0 && memcmp(registers, after_all, sizeof after_all) == 0, "a number without a value is no write");
+    expect(jovnetal_block(plan, sizeof plan, writes, 16, registers) == 17 && memcmp(registers, after_all, sizeof after_all) == 0, "another value than 1 to byte 1 is refused with 17, and the block is as it was");
 
     printf("C: p/q = %llu/%llu, %s\n", (unsigned long long)numbers[0], (unsigned long long)numbers[1], failures ? "FAILED" : "all as said");
     return failures != 0;

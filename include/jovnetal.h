@@ -1,7 +1,7 @@
 /* The calls of the kept-share analyser, for C and C++. `rt staticlib exports` writes target/staticlib/libexports.a, which has them.
 
    Buffers are lent for the time of a call: each is a pointer, which must not be null, and the number of bytes behind it. No
-   buffer that a call writes to may overlap another one. Any bytes may stand in plan, labels and certificate: a call always
+   buffer that a call writes to may overlap another one. Any bytes may stand in plan, labels, certificate and writes: a call always
    returns, reads and writes nothing outside what it was lent, and tells what is wrong by the number of the refusal
    (README.md has the table). */
 #ifndef JOVNETAL_H
@@ -77,6 +77,17 @@ uint64_t jovnetal_back(const uint8_t *plan, size_t plan_length, uint8_t *out, si
    Answers the number of bytes written, or JOVNETAL_REFUSED + n: 11 (below JOVNETAL_CERTIFICATE_ROOM), 6.
    Memory: bytes of out past the last one written keep what they had; after a refusal all do. */
 uint64_t jovnetal_widen(const uint8_t *certificate, size_t certificate_length, uint8_t *out, size_t out_length);
+
+/* The register block of the part that a plan sets up, after writes from a fresh block on; no graph is built. writes has two bytes for each
+   write, the number of a register byte and the value; a last byte that has no value is no write.
+   Registers: byte 0 takes a label; writing 1 to byte 1 runs one slot with that label and clears byte 0, admitted or not; byte 2 is the status
+   of the last such write, bit 0 a job finished, bit 1 the label was not admitted and no slot passed; byte 3 is the interrupt mask; byte 4 the
+   task that ran, 0 for none; byte 5 is 1 where status and mask share a set bit; bytes 8 to 11 are the gain so far modulo 2^32, most
+   significant first. All others are 0.
+   Answers the refusal of the last write: 0 for none, 17 for one to another byte than 0, 1 or 3, or of another value than 1 to byte 1, which
+   leaves the block as it was; or the plan's fault, 1 to 4.
+   Memory: registers has the sixteen bytes as they read after the writes; with a plan's fault it keeps what it had. */
+uint64_t jovnetal_block(const uint8_t *plan, size_t plan_length, const uint8_t *writes, size_t writes_length, uint8_t registers[16]);
 
 #ifdef __cplusplus
 }

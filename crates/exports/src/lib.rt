@@ -7,6 +7,7 @@ ghost use Rattle.model.specs.Bytes.{workAfter};
 ghost use Rattle.model.specs.Check.{check};
 ghost use Rattle.model.specs.Limits.{workRoom};
 ghost use Rattle.exports.specs.Codes.{codeOf, checkCode, numbersAfter, TracesAs, SolvesAs, RewritesAs, CombinesAs, ForthAs, BackAs, WidenedAs};
+ghost use Rattle.controller.specs.View.{Replays};
 ghost use Rattle.refusals.specs.Told.{resultBy};
 
 // The number of bytes written, or 65,536 and the number of the refusal.
@@ -111,4 +112,13 @@ pub extern "C" fn jovnetal_widen(certificate: &[u8], out: &mut [u8]) -> u64
     ensures { λ r. ⌜ WidenedAs (now (certificate .entry)) (now (out .entry)) (now (out .exit)) r ⌝ }
 {
     code(widen::widen(certificate, out))
+}
+
+// The register block's call: all writes from a fresh block on, each a byte's number and a value. It answers the refusal of the last one, 0
+// for none, with the sixteen bytes as they then read; or the plan's fault, with the bytes as they were.
+#[no_mangle]
+pub extern "C" fn jovnetal_block(plan: &[u8], writes: &[u8], registers: &mut [u8; 16]) -> u64
+    ensures { λ r. ⌜ Replays (now (plan .entry)) (now (writes .entry)) (now (registers .entry)) (now (registers .exit)) r ⌝ }
+{
+    controller::replay(plan, writes, registers)
 }

@@ -26,9 +26,11 @@ use Rattle.model.specs.PlanBytes.{planBytesIn, planBytes, arcsOf}
 use Rattle.model.specs.Gap.{releases, gapPlan, taskGap}
 use Rattle.model.specs.Combine.{pairs, manyPairs, combined, combine}
 use Rattle.model.specs.Convert.{forth, back, widened}
+use Rattle.model.specs.Controller.{registers, refusalOf, ranTo, afterWrite, writesIn, replayNumber, replayRegisters}
 
 -- what goes in: the bytes of a plan with those of a certificate or with labels, or of a certificate alone; p and q of a share; the bytes of
--- a plan to be sent forth or back, to be given a gap or to be combined with another, or of a certificate to be widened
+-- a plan to be sent forth or back, to be given a gap or to be combined with another, or of a certificate to be widened; the bytes of a plan and
+-- of writes to its register block
 pub data Input : Type 0 where
   checking : List ℕ → List ℕ → Input
   tracing : List ℕ → List ℕ → Input
@@ -39,9 +41,10 @@ pub data Input : Type 0 where
   spacing : List ℕ → (i g : ℕ) → Input
   combining : List ℕ → List ℕ → Input
   widening : List ℕ → Input
+  writing : List ℕ → List ℕ → Input
 
 -- what comes out: the numbers of the checked line; the task that ran, the gain and the task cut in each slot; the potentials; m; bytes;
--- a refusal
+-- a refusal; the number that is told of the last write, and the sixteen bytes
 pub data Output : Type 0 where
   line : (p q n k : ℕ) (m : Option ℕ) → Output
   slots : List (ℕ × ℕ × ℕ) → Output
@@ -49,6 +52,7 @@ pub data Output : Type 0 where
   prints : Option ℕ → Output
   wrote : List ℕ → Output
   refusal : ℕ → Output
+  block : ℕ → List ℕ → Output
 
 abbrev pub checked : CheckAnswer → Output
 checked (CheckAnswer.refused n) = refusal n
@@ -66,6 +70,10 @@ abbrev pub potentialsRead : Option Certificate → Output
 potentialsRead none = signs []
 potentialsRead (some c) = signs (c .potentials)
 
+-- sixteen bytes that are lent
+abbrev pub lentBytes : List ℕ
+lentBytes = replicate 16 0xa5
+
 -- what the definitions give, with just enough memory lent
 abbrev pub outcome : Input → Output
 outcome (checking plan certificate) = checked (check plan certificate workRoom)
@@ -77,6 +85,7 @@ outcome (returning plan) = written (planBytesIn firstEdition) (back plan (planRo
 outcome (spacing plan i g) = written planBytes (taskGap plan i g planRoom)
 outcome (combining plan other) = written planBytes (combine plan other planRoom)
 outcome (widening certificate) = written certificateBytes (widened certificate certificateRoom)
+outcome (writing plan bs) = block (replayNumber (readPlan plan) (writesIn bs)) (replayRegisters (readPlan plan) (writesIn bs) lentBytes)
 
 pub record Case : Type 0 where
   pub input : Input
@@ -191,7 +200,10 @@ firstWith bs = 0x01 ∷ 0x01 ∷ 0x01 ∷ 0x01 ∷ (bs ++ (0x02 ∷ 0x01 ∷ 0x0
 -- forth, D 9 and V 256 sent back, D 9 with a fault behind it, and A's certificate widened. Of locks: H takes a run of neighbouring bits and
 -- refuses the mask 5, which it takes unlocked; in I task 2, once begun, runs on although task 1 has fewer slots left or as many, also where
 -- it can't finish, but waits until it has begun; numbers that fall, stand twice or are not there, the last before the others; `09` before
--- and between tasks, after `02`, and in the first edition; and what is written, combined or sent back from a locked plan.
+-- and between tasks, after `02`, and in the first edition; and what is written, combined or sent back from a locked plan. Of the register
+-- block: in C the second label is not admitted, which clears bytes 0 and 4 and leaves the gain; in B no slot passes on a label that is not
+-- admitted, and task 2 is done in the next one; in A byte 5 follows the mask at once, both ways, 17 leaves every byte as it was, for a value and
+-- for a byte, and a number without a value is no write; and with no plan there is no block.
 abbrev pub cases : List Case
 cases =
     (checking planA certificateA gives line 1 1 1 0 (some 1000))
@@ -237,11 +249,19 @@ cases =
     ∷ (spacing (planH (0x09 ∷ 0x01 ∷ [])) 1 1 gives wrote (0x01 ∷ 0x02 ∷ 0x03 ∷ 0x6d ∷ 0xcc ∷ 0x09 ∷ 0x01 ∷ 0x02 ∷ 0x04 ∷ 0x03 ∷ 0x01 ∷ 0x04 ∷ 0x00 ∷ 0x00 ∷ 0x00 ∷ 0x04 ∷ 0x00 ∷ 0x01 ∷ 0x00 ∷ 0x05 ∷ []))
     ∷ (combining (twiceWith (0x09 ∷ 0x02 ∷ [])) (twiceWith (0x09 ∷ 0x02 ∷ [])) gives wrote (twiceWith (0x09 ∷ 0x02 ∷ [])))
     ∷ (combining (twiceWith (0x09 ∷ 0x02 ∷ [])) (twiceWith []) gives refusal 4)
+    ∷ (writing planC (0 ∷ 1 ∷ 1 ∷ 1 ∷ 0 ∷ 1 ∷ 1 ∷ 1 ∷ []) gives block 0 (0 ∷ 0 ∷ 2 ∷ 0 ∷ 0 ∷ 0 ∷ 0 ∷ 0 ∷ 0 ∷ 0 ∷ 0 ∷ 1 ∷ 0 ∷ 0 ∷ 0 ∷ 0 ∷ []))
+    ∷ (writing planB (0 ∷ 2 ∷ 1 ∷ 1 ∷ 0 ∷ 4 ∷ 1 ∷ 1 ∷ 0 ∷ 0 ∷ 1 ∷ 1 ∷ []) gives block 0 (0 ∷ 0 ∷ 1 ∷ 0 ∷ 2 ∷ 0 ∷ 0 ∷ 0 ∷ 0 ∷ 0 ∷ 0 ∷ 3 ∷ 0 ∷ 0 ∷ 0 ∷ 0 ∷ []))
+    ∷ (writing planA (0 ∷ 1 ∷ 1 ∷ 1 ∷ 3 ∷ 1 ∷ []) gives block 0 (0 ∷ 0 ∷ 1 ∷ 1 ∷ 1 ∷ 1 ∷ 0 ∷ 0 ∷ 0 ∷ 0 ∷ 0 ∷ 1 ∷ 0 ∷ 0 ∷ 0 ∷ 0 ∷ []))
+    ∷ (writing planA (0 ∷ 1 ∷ 1 ∷ 1 ∷ 3 ∷ 1 ∷ 3 ∷ 0xfe ∷ []) gives block 0 (0 ∷ 0 ∷ 1 ∷ 0xfe ∷ 1 ∷ 0 ∷ 0 ∷ 0 ∷ 0 ∷ 0 ∷ 0 ∷ 1 ∷ 0 ∷ 0 ∷ 0 ∷ 0 ∷ []))
+    ∷ (writing planA (3 ∷ 1 ∷ 0 ∷ 1 ∷ 1 ∷ 2 ∷ []) gives block 17 (1 ∷ 0 ∷ 0 ∷ 1 ∷ 0 ∷ 0 ∷ 0 ∷ 0 ∷ 0 ∷ 0 ∷ 0 ∷ 0 ∷ 0 ∷ 0 ∷ 0 ∷ 0 ∷ []))
+    ∷ (writing planA (0 ∷ 1 ∷ 2 ∷ 1 ∷ []) gives block 17 (1 ∷ 0 ∷ 0 ∷ 0 ∷ 0 ∷ 0 ∷ 0 ∷ 0 ∷ 0 ∷ 0 ∷ 0 ∷ 0 ∷ 0 ∷ 0 ∷ 0 ∷ 0 ∷ []))
+    ∷ (writing planA (0 ∷ 1 ∷ 1 ∷ []) gives block 0 (1 ∷ 0 ∷ 0 ∷ 0 ∷ 0 ∷ 0 ∷ 0 ∷ 0 ∷ 0 ∷ 0 ∷ 0 ∷ 0 ∷ 0 ∷ 0 ∷ 0 ∷ 0 ∷ []))
+    ∷ (writing [] (0 ∷ 1 ∷ []) gives block 1 lentBytes)
     ∷ []
 
 -- the definitions give every case its output
 pub marked : map (λ c. outcome (c .input)) cases ≡ map (λ c. c .output) cases
-unfolding number signed readPlanIn readFrom firstFault fault after width lastOperand mayFollow inRange taskInRange arcInRange slot ready first policyKey key freeMasks neighbouring masksOf choices edgeOf edgesAt edges found nodes tooLarge readCertificateIn readPotentials readSteps check verdict fractionOk gcd potentialsOk cycleOk follow allowance thousandths trace traceRun forth back widened arcsOf releases gapPlan taskGap pairs manyPairs combined combine planBytesIn certificateBytesIn bytes complement
+unfolding number signed readPlanIn readFrom firstFault fault after width lastOperand mayFollow inRange taskInRange arcInRange slot ready first policyKey key freeMasks neighbouring masksOf choices edgeOf edgesAt edges found nodes tooLarge readCertificateIn readPotentials readSteps check verdict fractionOk gcd potentialsOk cycleOk follow allowance thousandths trace traceRun forth back widened arcsOf releases gapPlan taskGap pairs manyPairs combined combine planBytesIn certificateBytesIn bytes complement registers refusalOf ranTo afterWrite
 marked = refl
 
 -- ---- the passes of A, B and C, and of a plan whose nodes have to be taken by number

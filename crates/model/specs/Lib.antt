@@ -25,5 +25,6 @@ pub mod Locks
 pub mod Gap
 pub mod Combine
 pub mod Convert
+pub mod Controller
 pub mod Text
 pub mod Cases

@@ -74,3 +74,9 @@ tooManyPairs = 15
 -- 16, a D above 8, a V above 255 or a lock on the way back to the first edition
 abbrev pub notInFirst : ℕ
 notInFirst = 16
+
+-- Whoever writes to the register block.
+
+-- 17, a write to another byte than 0, 1 or 3, or of another value than 1 to byte 1
+abbrev pub badWrite : ℕ
+badWrite = 17

@@ -10,6 +10,8 @@ use Rattle.model.specs.Trace.{Row}
 use Rattle.model.specs.Check.{CheckAnswer, refused, share}
 use Rattle.model.specs.Thousandths.{thousandths}
 use Rattle.model.specs.Calls.{Writing, refuses, writes}
+use Rattle.model.specs.Plan.{Plan}
+use Rattle.model.specs.Controller.{Block, Write, registers, refusalOf, afterWrite}
 
 -- "Numbers are decimal." Each turn takes a digit, so as many turns as the number are enough.
 abbrev pub digitsIn : ℕ → ℕ → List ℕ
@@ -34,6 +36,11 @@ lineFeed = 10 ∷ []
 -- a number that ends its line
 abbrev pub numberLine : ℕ → List ℕ
 numberLine n = decimal n ++ lineFeed
+
+-- numbers in one line: the first, and the others
+abbrev pub numbersLine : ℕ → List ℕ → List ℕ
+numbersLine n [] = numberLine n
+numbersLine n (m ∷ ms) = field n ++ numbersLine m ms
 
 -- "A refusal is the single line `refused n`."
 unfoldable pub refusedLine : ℕ → List ℕ
@@ -78,3 +85,12 @@ writingText spell (writes a) = spell a
 -- "a small generator program .. prints it in its order, fewest ones first, one decimal number a line"
 unfoldable pub maskText : List ℕ
 maskText = flatMap numberLine maskTable
+
+-- What is written for writes to the register block: a line each, its refusal or 0 and the sixteen bytes as they then read.
+unfoldable pub writeLine : Plan → Block → Write → List ℕ
+writeLine P b w = numbersLine (refusalOf w) (registers (afterWrite P b w))
+
+-- the lines from a block on
+abbrev pub writeLines : Plan → Block → List Write → List ℕ
+writeLines P b [] = []
+writeLines P b (w ∷ ws) = writeLine P b w ++ writeLines P (afterWrite P b w) ws

@@ -21,7 +21,7 @@ use Rattle.policy.proofs.Lists.{keep-flatMap, map-flatMap, flatMap-shif
 -- ---- ranges
 
 -- a task is there and in range, or has no work and no window
-task-cases : (ts : Tasks) → TasksInRange ts → (i : ℕ) → ((i < length ts) × InRange (getD ts i noTask)) ⊎ (getD ts i noTask ≡ noTask)
+pub task-cases : (ts : Tasks) → TasksInRange ts → (i : ℕ) → ((i < length ts) × InRange (getD ts i noTask)) ⊎ (getD ts i noTask ≡ noTask)
 task-cases ts r i = go (ltb i (length ts)) refl
   where
     go : (b : Bool) → ltb i (length ts) ≡ b → ((i < length ts) × InRange (getD ts i noTask)) ⊎ (getD ts i noTask ≡ noTask)

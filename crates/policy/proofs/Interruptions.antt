@@ -147,7 +147,7 @@ module _ (r : Rules) (ruled : Ruled r) (cells : List ℕ) (h : Cells (tasksIn r)
   joined = joinedCells ts cells label
 
   -- the job that is chosen, and the row
-  chosen : chosenIn P (jobsOf ts cells) label ≡ choiceIn ts joined (d .ran)
+  pub chosen : chosenIn P (jobsOf ts cells) label ≡ choiceIn ts joined (d .ran)
   unfolding ready
   chosen =
       let entered = joined-leaves ts cells label (ruled .tasks) h refl in

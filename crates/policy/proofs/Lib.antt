@@ -7,4 +7,5 @@ pub mod Rule
 pub mod Canonical
 pub mod Interruptions
 pub mod Gain
+pub mod Finished
 pub mod Plans

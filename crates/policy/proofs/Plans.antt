@@ -16,7 +16,7 @@ use Rattle.policy.specs.View.{TasksInRange}
 pub tasks-range : (P : model.Plan) → IsSound P → TasksInRange (P .tasks)
 tasks-range P s = record {
   count = sound-plan P s .tasksFit;
-  each = λ i h. let t = task-sound P (sound-plan P s) i h in record { work = t .someWork; within = t .workFits; window = t .windowFits; value = t .valueFits };
+  each = λ i h. let t = task-sound P (sound-plan P s) i h in record { work = t .someWork; within = t .workFits; window = t .windowFits; someValue = t .someValue; value = t .valueFits };
 }
 
 -- and its next states are states

@@ -60,11 +60,12 @@ jobsIn ts k w = consIf (ltb 0 w) (jobIn ts k w) []
 unfoldable pub jobsOf : Tasks → List ℕ → List Job
 jobsOf ts cells = flatMap (λ k. jobsIn ts k (getD cells k 0)) (upFrom 0 (length cells))
 
--- "1 ≤ C ≤ D ≤" the longest window, and V at most its limit
+-- "1 ≤ C ≤ D ≤" the longest window, and V from 1 to its limit
 pub record InRange (t : model.Task) : Type 0 where
   pub work : 1 ≤ t .work
   pub within : t .work ≤ t .window
   pub window : t .window ≤ maxWindow
+  pub someValue : 1 ≤ t .value
   pub value : t .value ≤ maxValue
 
 pub record TasksInRange (ts : Tasks) : Type 0 where

@@ -50,3 +50,4 @@ pub mod Gaps
 pub mod Pairs
 pub mod Combined
 pub mod Converted
+pub mod Controller

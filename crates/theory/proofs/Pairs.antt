@@ -49,11 +49,11 @@ list-mem (some w) m = ap some (sym (List·Memᴰ·eq-of-singleton m))
 
 -- ---- the state after one label more
 
-abbrev then : Plan → ℕ → Option ℕ → Option ℕ
+abbrev pub then : Plan → ℕ → Option ℕ → Option ℕ
 then P l none = none
 then P l (some s) = nextIn (P .arcs) s l
 
-state-snoc : (P : Plan) (run : List ℕ) (s l : ℕ) → stateAfter P (run ++ (l ∷ [])) s ≡ then P l (stateAfter P run s)
+pub state-snoc : (P : Plan) (run : List ℕ) (s l : ℕ) → stateAfter P (run ++ (l ∷ [])) s ≡ then P l (stateAfter P run s)
 state-snoc P [] s l = by (nextIn (P .arcs) s l)
   where
     by : (o : Option ℕ) → (elim o [ none ↦ none | some t ↦ some t ]) ≡ o

@@ -1,0 +1,4 @@
+pub mod Ahead
+pub mod Line
+pub mod Parts
+pub mod Writing
