@@ -1,5 +1,5 @@
 /* Calls the library as a C program does: solves case B, checks the certificate, traces labels 2, 1, 0 and 3, 0, and the first with task 2
-   locked, gives task 1 a gap of two slots, combines case B with that plan, sends it back to the first edition and forth again, widens and
+   locked, gives task 1 and then both tasks a gap of two slots, combines case B with the plan of the first gap, sends it back to the first edition and forth again, widens and
    checks a certificate of the first edition, writes to case B's register block, and sees that refusals leave memory as it was. */
 #include <stdio.h>
 #include <string.h>
@@ -39,6 +39,7 @@ int main(void) {
     static const uint8_t traced[] = {2, 0, 0, 0, 1, 0, 1, 2, 0, 0, 0, 0};
     static const uint8_t in_vain[] = {1, 0, 1, 0, 2, 0, 0, 0};
     static const uint8_t gap[] = {1, 1, 1, 0, 1, 1, 2, 2, 0, 3, 2, 1, 3, 2, 4, 0, 0, 0, 4, 0, 1, 1, 4, 0, 2, 0, 4, 0, 3, 1, 4, 1, 0, 0, 4, 1, 2, 0, 5};
+    static const uint8_t shared[] = {1, 1, 1, 0, 1, 1, 2, 2, 0, 3, 2, 1, 3, 2, 4, 0, 0, 0, 4, 0, 1, 1, 4, 0, 2, 1, 4, 1, 0, 0, 5};
     static const uint8_t held[] = {2, 0, 0, 0, 2, 0, 3, 0, 0, 0, 0, 0};
     static const uint8_t locked[] = {1, 1, 1, 0, 1, 1, 2, 2, 0, 3, 9, 2, 2, 1, 3, 1, 4, 0, 0, 0, 4, 0, 1, 0, 4, 0, 2, 0, 4, 0, 3, 0, 5};
     static const uint8_t old[] = {1, 1, 1, 1, 1, 2, 2, 3, 2, 1, 3, 1, 4, 0, 0, 0, 4, 0, 1, 0, 4, 0, 2, 0, 4, 0, 3, 0, 5};
@@ -93,6 +94,17 @@ int main(void) {
     expect(all(apart + n, sizeof apart - n, 7), "bytes past the plan are as they were");
     n = jovnetal_gap(locked, sizeof locked, 1, 2, apart, sizeof apart);
     expect(n == sizeof gap + 2 && memcmp(apart, locked, 12) == 0 && memcmp(apart + 12, gap + 10, sizeof gap - 10) == 0, "and keeps the lock");
+
+    memset(apart, 7, sizeof apart);
+    expect(jovnetal_group_gap(plan, sizeof plan, 0, 2, apart, sizeof apart) == JOVNETAL_REFUSED + 14, "a gap for no task is refused with 14");
+    expect(jovnetal_group_gap(plan, sizeof plan, 5, 2, apart, sizeof apart) == JOVNETAL_REFUSED + 14, "and so is one for a third task beside the first");
+    expect(jovnetal_group_gap(plan, sizeof plan, 3, 2, apart, sizeof apart - 1) == JOVNETAL_REFUSED + 11, "short output is refused with 11");
+    expect(all(apart, sizeof apart, 7), "and all three leave the output as it was");
+    n = jovnetal_group_gap(plan, sizeof plan, 3, 2, apart, sizeof apart);
+    expect(n == sizeof shared && memcmp(apart, shared, sizeof shared) == 0, "both tasks share the gap, and no slot");
+    expect(all(apart + n, sizeof apart - n, 7), "bytes past the plan are as they were");
+    n = jovnetal_group_gap(plan, sizeof plan, 1, 2, apart, sizeof apart);
+    expect(n == sizeof gap && memcmp(apart, gap, sizeof gap) == 0, "a set of one is that task");
 
     memset(both, 7, sizeof both);
     expect(jovnetal_combine(plan, sizeof plan, other, sizeof other, both, sizeof both) == JOVNETAL_REFUSED + 4, "different tasks are refused with 4");

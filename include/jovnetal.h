@@ -53,6 +53,12 @@ uint64_t jovnetal_trace(const uint8_t *plan, size_t plan_length, const uint8_t *
    Memory: bytes of out past the last one written keep what they had; after a refusal all do. */
 uint64_t jovnetal_gap(const uint8_t *plan, size_t plan_length, uint64_t task, uint64_t slots, uint8_t *out, size_t out_length);
 
+/* The same for a set of tasks, written as a label is: bit i - 1 says that task i is of it. Any two releases from the set are at least so many
+   slots apart, so two of them never share a slot. A set of one task gives what jovnetal_gap gives for it.
+   Answers the number of bytes written, or JOVNETAL_REFUSED + n: 11, 1 to 4, 14, also for a set without a task or with one that the plan lacks.
+   Memory: bytes of out past the last one written keep what they had; after a refusal all do. */
+uint64_t jovnetal_group_gap(const uint8_t *plan, size_t plan_length, uint64_t set, uint64_t slots, uint8_t *out, size_t out_length);
+
 /* Writes the first plan's tasks, with their locks, and policy to out with an automaton that admits exactly the runs that both plans admit.
    first and second may be the same bytes.
    Answers the number of bytes written, or JOVNETAL_REFUSED + n: 11, the first plan's 1 to 4, the second's 1 to 4, 4 for different tasks or

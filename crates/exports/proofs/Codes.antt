@@ -8,6 +8,7 @@ use lib.ListN.{length, take}
 use Rattle.model.specs.Calls.{Writing, refuses, writes}
 use Rattle.model.specs.Convert.{Converted}
 use Rattle.model.specs.Edition.{Edition}
+use Rattle.model.specs.Gap.{Group, HasGap}
 use Rattle.model.specs.Plan.{Plan}
 use Rattle.refusals.specs.Numbers.{refusalNumber}
 use Rattle.refusals.specs.declared.Answer.{Answer}
@@ -15,7 +16,8 @@ use Rattle.refusals.specs.declared.Answer.the-variants.{Refused, Written}
 use Rattle.refusals.specs.Told.{resultBy, Told}
 use Rattle.refusals.proofs.Told.{told-bytes, told-due}
 use Rattle.convert.specs.Promise.{Converts}
-use Rattle.exports.specs.Codes.{codeOf, TellsAs, ConvertsAs}
+use Rattle.gap.specs.Promise.{Rewrites}
+use Rattle.exports.specs.Codes.{codeOf, TellsAs, ConvertsAs, RewritesAs}
 
 -- what holds of the bytes that were written holds by the number, where that is below a refusal's
 pub by-number : (F : ℕ → Type 0) (a : Answer) {r : ℕ} → r ≡ codeOf (resultBy a) → ((n : ℕ) → a ≡ Written n → F n) → r < 65536 → F r
@@ -41,4 +43,12 @@ module _ {from to : Edition} {call takenBack : List ℕ → ℕ → Writing Plan
   converts-as a w e = record {
     tells = tells-as (w .told) e;
     kept = λ P read. by-number (λ k. Converted from to takenBack plan (take k out′) P) a e (w .kept P read);
+  }
+
+module _ {plan : List ℕ} {group : Group} {slots : ℕ} {out out′ : List ℕ} {r : ℕ} where
+  pub rewrites-as : (a : Answer) → Rewrites plan group slots out out′ a → r ≡ codeOf (resultBy a) → RewritesAs plan group slots out out′ r
+  rewrites-as a w e = record {
+    tells = tells-as (w .told) e;
+    named = λ other same. tells-as (w .named other same) e;
+    kept = λ P read. by-number (λ k. HasGap P group slots (take k out′)) a e (w .kept P read);
   }

@@ -11,7 +11,7 @@ use Rattle.model.specs.Calls.{Result, Writing, refused, written, resultOf, outp
 use Rattle.model.specs.Combine.{combine, AdmitsBoth, ManyReached}
 use Rattle.model.specs.Convert.{forth, back, widened, Converted, Unsaid, CertificateCarried, CarriesOver}
 use Rattle.model.specs.Edition.{Edition, firstEdition, longReads, planRoomIn}
-use Rattle.model.specs.Gap.{isTask, taskGap, HasGap}
+use Rattle.model.specs.Gap.{Group, groupGap, HasGap, SameTasks}
 use Rattle.model.specs.Interrupted.{TellsCuts, cutIn}
 use Rattle.model.specs.Plan.{Plan, sound, readPlan, readPlanIn, IsSoundIn}
 use Rattle.model.specs.PlanBytes.{planBytesIn, planBytes}
@@ -64,10 +64,11 @@ pub record TracesAs (plan labels out out′ : List ℕ) (r : ℕ) : Type 0 where
   pub tells : TellsAs traceBytes (trace plan labels (length out)) out out′ r
   pub cuts : (P : Plan) → readPlan plan ≡ sound P → r < 65536 → TellsCuts P labels (cutIn out′)
 
--- the gap call's: what is due, and bytes that were written have the gap
-pub record RewritesAs (plan : List ℕ) (task slots : ℕ) (out out′ : List ℕ) (r : ℕ) : Type 0 where
-  pub tells : TellsAs planBytes (taskGap plan task slots (length out)) out out′ r
-  pub kept : (P : Plan) → readPlan plan ≡ sound P → r < 65536 → HasGap P (isTask task) slots (take r out′)
+-- the gap calls': what is due, for every name of the same tasks, and bytes that were written have the gap
+pub record RewritesAs (plan : List ℕ) (group : Group) (slots : ℕ) (out out′ : List ℕ) (r : ℕ) : Type 0 where
+  pub tells : TellsAs planBytes (groupGap plan group slots (length out)) out out′ r
+  pub named : (other : Group) → SameTasks group other → TellsAs planBytes (groupGap plan other slots (length out)) out out′ r
+  pub kept : (P : Plan) → readPlan plan ≡ sound P → r < 65536 → HasGap P group slots (take r out′)
 
 -- the combine call's: what is due; bytes that were written admit what both plans admit; and where 15 is told, too many pairs are reached
 pub record CombinesAs (first second out out′ : List ℕ) (r : ℕ) : Type 0 where

@@ -1,10 +1,12 @@
 // The calls for programs in C and Rust: numbers, byte slices and arrays of numbers alone.
+use gap::Group;
 use refusals::Answer;
 ghost use mathlib.Core.Path.{_≡_};
 ghost use lib.Dec.{leb};
 ghost use lib.ListN.{length};
 ghost use Rattle.model.specs.Bytes.{workAfter};
 ghost use Rattle.model.specs.Check.{check};
+ghost use Rattle.model.specs.Gap.{oneTask, taskSet};
 ghost use Rattle.model.specs.Limits.{workRoom};
 ghost use Rattle.exports.specs.Codes.{codeOf, checkCode, numbersAfter, TracesAs, SolvesAs, RewritesAs, CombinesAs, ForthAs, BackAs, WidenedAs};
 ghost use Rattle.controller.specs.View.{Replays};
@@ -77,9 +79,17 @@ pub extern "C" fn jovnetal_solve(
 // The gap call: the number of bytes written, or 65,536 and the number of the refusal.
 #[no_mangle]
 pub extern "C" fn jovnetal_gap(plan: &[u8], task: u64, slots: u64, out: &mut [u8]) -> u64
-    ensures { λ r. ⌜ RewritesAs (now (plan .entry)) task slots (now (out .entry)) (now (out .exit)) r ⌝ }
+    ensures { λ r. ⌜ RewritesAs (now (plan .entry)) (oneTask task) slots (now (out .entry)) (now (out .exit)) r ⌝ }
 {
-    code(gap::rewrite(plan, task, slots, out))
+    code(gap::rewrite(plan, Group::Task(task), slots, out))
+}
+
+// The gap call for a set of tasks: the number of bytes written, or 65,536 and the number of the refusal.
+#[no_mangle]
+pub extern "C" fn jovnetal_group_gap(plan: &[u8], set: u64, slots: u64, out: &mut [u8]) -> u64
+    ensures { λ r. ⌜ RewritesAs (now (plan .entry)) (taskSet set) slots (now (out .entry)) (now (out .exit)) r ⌝ }
+{
+    code(gap::rewrite(plan, Group::Set(set), slots, out))
 }
 
 // The combine call: the number of bytes written, or 65,536 and the number of the refusal.

@@ -3,11 +3,10 @@
 use mathlib.Core.Path.{_≡_, refl, sym, _∙_, ap}
 use mathlib.Core.Logic.{_↔_}
 use mathlib.Core.List.{List, _++_, append-nil, List·Memᴰ, Memᴰ·cast}
-use Prim.Native.Nat.{ℕ, zero, suc, _+_, _-_, _/_, _%_, _^_, _<_, _≤_}
-use native.Mathlib.Nat.{zero-add, add-sub-of-le, pow-suc}
+use Prim.Native.Nat.{ℕ, zero, suc, _+_, _-_, _/_, _^_, _<_, _≤_}
+use native.Mathlib.Nat.{zero-add, add-sub-of-le}
 use native.Mathlib.Numerals.{add-one}
 use native.Mathlib.Omega.{arith}
-use lib.Count as count
 use lib.Dec.{eqb, ltb}
 use lib.ListN.{length, getD, take, drop, length-append, List·getD-append}
 use lib.Pow.{pow-mono, suc-ones}
@@ -23,13 +22,6 @@ use Rattle.model.proofs.Runs.{ones-zero}
 pub ones-le : (n m : ℕ) → ones n m ≤ n
 ones-le zero m = omega arith
 ones-le (suc n) m = omega (arith, ones-le n (m / 2))
-
--- the ones of a number of n bits, as they are counted
-pub ones-counted : (n m : ℕ) → m < 2 ^ n → count.ones m ≡ ones n m
-unfolding count.ones count.onesIn
-ones-counted zero m h = let z : m ≡ 0 = omega arith in ap count.ones z
-ones-counted (suc n) m h =
-    count.ones-step m ∙ ap (λ k. m % 2 + k) (ones-counted n (m / 2) (omega (arith, pow-suc 2 n)))
 
 -- a number is in the group of c ones just if it is a mask with c ones
 pub mem-group : (c m : ℕ) → List·Memᴰ m (group c) ↔ ((m < maskCount) × (ones maxWindow m ≡ c))

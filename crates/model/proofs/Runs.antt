@@ -1,4 +1,4 @@
--- Laws of a bit that is moved up, and of runs of neighbouring bits.
+-- Laws of a bit that is moved up, of the count of ones, and of runs of neighbouring bits.
 -- Assumes nothing.
 use mathlib.Core.Path.{_≡_, refl, sym, _∙_, ap, subst}
 use mathlib.Core.Bool.{true}
@@ -7,6 +7,7 @@ use Prim.Native.Nat.{ℕ, zero, suc, _+_, _-_, _*_, _/_, _%_, _^_, _≤_, _<_}
 use native.Mathlib.Nat.{two-pow-succ, zero-mul, one-mul, mod-eq-of-lt, mul-assoc, mul-comm, pow-suc, mul-le-mul-right, lt-of-lt-of-le}
 use native.Mathlib.Decide.{decLt}
 use native.Mathlib.Omega.{arith}
+use lib.Count as count
 use lib.Dec.{eqb}
 use lib.Pow.{pow-pos, pow-lt, pow-mono, pow-add, ones-lt, shl-lt}
 use borrow.Author.Tests.{eqb-true, eq-eqb}
@@ -36,6 +37,12 @@ run-more c = omega (arith, two-pow-succ c, pow-pos c)
 pub ones-zero : (n : ℕ) → ones n 0 ≡ 0
 ones-zero zero = refl
 ones-zero (suc n) = omega (arith, ones-zero n)
+
+-- the ones of a number of n bits, as they are counted
+pub ones-counted : (n m : ℕ) → m < 2 ^ n → count.ones m ≡ ones n m
+unfolding count.ones count.onesIn
+ones-counted zero m h = let z : m ≡ 0 = omega arith in ap count.ones z
+ones-counted (suc n) m h = count.ones-step m ∙ ap (λ k. m % 2 + k) (ones-counted n (m / 2) (omega (arith, two-pow-succ n)))
 
 -- a run has as many ones as it has bits
 pub run-ones : (c k n : ℕ) → k + c ≤ n → ones n (bitRun c k) ≡ c

@@ -1,9 +1,11 @@
 -- The marked cases of document 01, as the requests leave them, in the long-read edition's widths: one table, and one theorem that the definitions give every line of it. Beside
--- it, since passes are a relation and no function, those of the request about passes.
+-- it, since passes and a gap that is kept are relations and no functions, those of the requests about them.
 use mathlib.Core.Path.{_≡_, refl}
-use Prim.Native.Nat.{ℕ, suc, _+_}
-use mathlib.Core.Bool.{false}
+use Prim.Native.Nat.{ℕ, suc, _+_, _≤_, _<_}
+use native.Mathlib.Omega.{arith}
+use mathlib.Core.Bool.{Bool, false}
 use mathlib.Core.List.{List, [], _∷_, _++_, map}
+use mathlib.Core.Logic.{_⊎_, ⊎-elim}
 use mathlib.Core.Option.{Option, none, some}
 use lib.IntN.{ℤ, pos, negsuc}
 use lib.ListN.{length, replicate}
@@ -23,7 +25,7 @@ use Rattle.model.specs.Passes.{beginning, relaxNode, pass, PassesTo, las
 use Rattle.model.specs.Calls.{Writing, refuses, writes}
 use Rattle.model.specs.Trace.{Row, trace, traceRun}
 use Rattle.model.specs.PlanBytes.{planBytesIn, planBytes, arcsOf}
-use Rattle.model.specs.Gap.{releases, gapPlan, taskGap}
+use Rattle.model.specs.Gap.{Group, oneTask, taskSet, inGroup, releases, gapPlan, groupGap, GapKept}
 use Rattle.model.specs.Combine.{pairs, manyPairs, combined, combine}
 use Rattle.model.specs.Convert.{forth, back, widened}
 use Rattle.model.specs.Controller.{registers, refusalOf, ranTo, afterWrite, writesIn, replayNumber, replayRegisters}
@@ -38,7 +40,7 @@ pub data Input : Type 0 where
   printing : ℕ → ℕ → Input
   sending : List ℕ → Input
   returning : List ℕ → Input
-  spacing : List ℕ → (i g : ℕ) → Input
+  spacing : List ℕ → Group → (g : ℕ) → Input
   combining : List ℕ → List ℕ → Input
   widening : List ℕ → Input
   writing : List ℕ → List ℕ → Input
@@ -82,7 +84,7 @@ outcome (potentials certificate) = potentialsRead (readCertificate certificate)
 outcome (printing p q) = prints (thousandths p q)
 outcome (sending plan) = written (planBytesIn longReads) (forth plan (planRoomIn longReads))
 outcome (returning plan) = written (planBytesIn firstEdition) (back plan (planRoomIn firstEdition))
-outcome (spacing plan i g) = written planBytes (taskGap plan i g planRoom)
+outcome (spacing plan group g) = written planBytes (groupGap plan group g planRoom)
 outcome (combining plan other) = written planBytes (combine plan other planRoom)
 outcome (widening certificate) = written certificateBytes (widened certificate certificateRoom)
 outcome (writing plan bs) = block (replayNumber (readPlan plan) (writesIn bs)) (replayRegisters (readPlan plan) (writesIn bs) lentBytes)
@@ -189,6 +191,10 @@ fiveTasks = taskTimes 4 ++ planD
 abbrev pub twiceWith : List ℕ → List ℕ
 twiceWith bs = taskTimes 2 ++ (bs ++ (0x02 ∷ 0x01 ∷ 0x03 ∷ 0x01 ∷ 0x05 ∷ []))
 
+-- J, of our own: three tasks (1,1,1), EDF, so many states and these arcs
+abbrev pub planJ : ℕ → List ℕ → List ℕ
+planJ states arcs = taskTimes 3 ++ (0x02 ∷ 0x01 ∷ 0x03 ∷ states ∷ (arcs ++ (0x05 ∷ [])))
+
 -- plan D of the first edition, with these bytes behind its task
 abbrev pub firstWith : List ℕ → List ℕ
 firstWith bs = 0x01 ∷ 0x01 ∷ 0x01 ∷ 0x01 ∷ (bs ++ (0x02 ∷ 0x01 ∷ 0x03 ∷ 0x01 ∷ 0x05 ∷ []))
@@ -200,8 +206,10 @@ firstWith bs = 0x01 ∷ 0x01 ∷ 0x01 ∷ 0x01 ∷ (bs ++ (0x02 ∷ 0x01 ∷ 0x0
 -- forth, D 9 and V 256 sent back, D 9 with a fault behind it, and A's certificate widened. Of locks: H takes a run of neighbouring bits and
 -- refuses the mask 5, which it takes unlocked; in I task 2, once begun, runs on although task 1 has fewer slots left or as many, also where
 -- it can't finish, but waits until it has begun; numbers that fall, stand twice or are not there, the last before the others; `09` before
--- and between tasks, after `02`, and in the first edition; and what is written, combined or sent back from a locked plan. Of the register
--- block: in C the second label is not admitted, which clears bytes 0 and 4 and leaves the gain; in B no slot passes on a label that is not
+-- and between tasks, after `02`, and in the first edition; and what is written, combined or sent back from a locked plan. Of a gap over a set,
+-- in J: tasks 1 and 3 close each other and never share a slot, and task 2 is free; with a gap of 1 no two of three share a slot; a set of one,
+-- and that task; no task, a task that the plan lacks, alone and with one that it has, a gap of 0 and of 17; and a plan's own fault first. Of
+-- the register block: in C the second label is not admitted, which clears bytes 0 and 4 and leaves the gain; in B no slot passes on a label that is not
 -- admitted, and task 2 is done in the next one; in A byte 5 follows the mask at once, both ways, 17 leaves every byte as it was, for a value and
 -- for a byte, and a number without a value is no write; and with no plan there is no block.
 abbrev pub cases : List Case
@@ -246,9 +254,19 @@ cases =
     ∷ (checking (taskTimes 1 ++ (0x02 ∷ 0x01 ∷ 0x09 ∷ 0x01 ∷ 0x03 ∷ 0x01 ∷ 0x05 ∷ [])) [] gives refusal 3)
     ∷ (sending (firstWith (0x09 ∷ 0x01 ∷ [])) gives refusal 2)
     ∷ (returning (twiceWith (0x09 ∷ 0x01 ∷ [])) gives refusal 16)
-    ∷ (spacing (planH (0x09 ∷ 0x01 ∷ [])) 1 1 gives wrote (0x01 ∷ 0x02 ∷ 0x03 ∷ 0x6d ∷ 0xcc ∷ 0x09 ∷ 0x01 ∷ 0x02 ∷ 0x04 ∷ 0x03 ∷ 0x01 ∷ 0x04 ∷ 0x00 ∷ 0x00 ∷ 0x00 ∷ 0x04 ∷ 0x00 ∷ 0x01 ∷ 0x00 ∷ 0x05 ∷ []))
+    ∷ (spacing (planH (0x09 ∷ 0x01 ∷ [])) (oneTask 1) 1 gives wrote (0x01 ∷ 0x02 ∷ 0x03 ∷ 0x6d ∷ 0xcc ∷ 0x09 ∷ 0x01 ∷ 0x02 ∷ 0x04 ∷ 0x03 ∷ 0x01 ∷ 0x04 ∷ 0x00 ∷ 0x00 ∷ 0x00 ∷ 0x04 ∷ 0x00 ∷ 0x01 ∷ 0x00 ∷ 0x05 ∷ []))
     ∷ (combining (twiceWith (0x09 ∷ 0x02 ∷ [])) (twiceWith (0x09 ∷ 0x02 ∷ [])) gives wrote (twiceWith (0x09 ∷ 0x02 ∷ [])))
     ∷ (combining (twiceWith (0x09 ∷ 0x02 ∷ [])) (twiceWith []) gives refusal 4)
+    ∷ (spacing (planJ 1 []) (taskSet 5) 2 gives wrote (planJ 2 (0x04 ∷ 0x00 ∷ 0x00 ∷ 0x00 ∷ 0x04 ∷ 0x00 ∷ 0x01 ∷ 0x01 ∷ 0x04 ∷ 0x00 ∷ 0x02 ∷ 0x00 ∷ 0x04 ∷ 0x00 ∷ 0x03 ∷ 0x01 ∷ 0x04 ∷ 0x00 ∷ 0x04 ∷ 0x01 ∷ 0x04 ∷ 0x00 ∷ 0x06 ∷ 0x01 ∷ 0x04 ∷ 0x01 ∷ 0x00 ∷ 0x00 ∷ 0x04 ∷ 0x01 ∷ 0x02 ∷ 0x00 ∷ [])))
+    ∷ (spacing (planJ 1 []) (taskSet 7) 1 gives wrote (planJ 1 (0x04 ∷ 0x00 ∷ 0x00 ∷ 0x00 ∷ 0x04 ∷ 0x00 ∷ 0x01 ∷ 0x00 ∷ 0x04 ∷ 0x00 ∷ 0x02 ∷ 0x00 ∷ 0x04 ∷ 0x00 ∷ 0x04 ∷ 0x00 ∷ [])))
+    ∷ (spacing (planJ 1 []) (taskSet 4) 2 gives wrote (planJ 2 (0x04 ∷ 0x00 ∷ 0x00 ∷ 0x00 ∷ 0x04 ∷ 0x00 ∷ 0x01 ∷ 0x00 ∷ 0x04 ∷ 0x00 ∷ 0x02 ∷ 0x00 ∷ 0x04 ∷ 0x00 ∷ 0x03 ∷ 0x00 ∷ 0x04 ∷ 0x00 ∷ 0x04 ∷ 0x01 ∷ 0x04 ∷ 0x00 ∷ 0x05 ∷ 0x01 ∷ 0x04 ∷ 0x00 ∷ 0x06 ∷ 0x01 ∷ 0x04 ∷ 0x00 ∷ 0x07 ∷ 0x01 ∷ 0x04 ∷ 0x01 ∷ 0x00 ∷ 0x00 ∷ 0x04 ∷ 0x01 ∷ 0x01 ∷ 0x00 ∷ 0x04 ∷ 0x01 ∷ 0x02 ∷ 0x00 ∷ 0x04 ∷ 0x01 ∷ 0x03 ∷ 0x00 ∷ [])))
+    ∷ (spacing (planJ 1 []) (oneTask 3) 2 gives wrote (planJ 2 (0x04 ∷ 0x00 ∷ 0x00 ∷ 0x00 ∷ 0x04 ∷ 0x00 ∷ 0x01 ∷ 0x00 ∷ 0x04 ∷ 0x00 ∷ 0x02 ∷ 0x00 ∷ 0x04 ∷ 0x00 ∷ 0x03 ∷ 0x00 ∷ 0x04 ∷ 0x00 ∷ 0x04 ∷ 0x01 ∷ 0x04 ∷ 0x00 ∷ 0x05 ∷ 0x01 ∷ 0x04 ∷ 0x00 ∷ 0x06 ∷ 0x01 ∷ 0x04 ∷ 0x00 ∷ 0x07 ∷ 0x01 ∷ 0x04 ∷ 0x01 ∷ 0x00 ∷ 0x00 ∷ 0x04 ∷ 0x01 ∷ 0x01 ∷ 0x00 ∷ 0x04 ∷ 0x01 ∷ 0x02 ∷ 0x00 ∷ 0x04 ∷ 0x01 ∷ 0x03 ∷ 0x00 ∷ [])))
+    ∷ (spacing (planJ 1 []) (taskSet 0) 2 gives refusal 14)
+    ∷ (spacing (planJ 1 []) (taskSet 8) 2 gives refusal 14)
+    ∷ (spacing (planJ 1 []) (taskSet 9) 2 gives refusal 14)
+    ∷ (spacing (planJ 1 []) (taskSet 7) 0 gives refusal 14)
+    ∷ (spacing (planJ 1 []) (taskSet 7) 17 gives refusal 14)
+    ∷ (spacing (planJ 1 [] ++ (0x05 ∷ [])) (taskSet 0) 2 gives refusal 3)
     ∷ (writing planC (0 ∷ 1 ∷ 1 ∷ 1 ∷ 0 ∷ 1 ∷ 1 ∷ 1 ∷ []) gives block 0 (0 ∷ 0 ∷ 2 ∷ 0 ∷ 0 ∷ 0 ∷ 0 ∷ 0 ∷ 0 ∷ 0 ∷ 0 ∷ 1 ∷ 0 ∷ 0 ∷ 0 ∷ 0 ∷ []))
     ∷ (writing planB (0 ∷ 2 ∷ 1 ∷ 1 ∷ 0 ∷ 4 ∷ 1 ∷ 1 ∷ 0 ∷ 0 ∷ 1 ∷ 1 ∷ []) gives block 0 (0 ∷ 0 ∷ 1 ∷ 0 ∷ 2 ∷ 0 ∷ 0 ∷ 0 ∷ 0 ∷ 0 ∷ 0 ∷ 3 ∷ 0 ∷ 0 ∷ 0 ∷ 0 ∷ []))
     ∷ (writing planA (0 ∷ 1 ∷ 1 ∷ 1 ∷ 3 ∷ 1 ∷ []) gives block 0 (0 ∷ 0 ∷ 1 ∷ 1 ∷ 1 ∷ 1 ∷ 0 ∷ 0 ∷ 0 ∷ 0 ∷ 0 ∷ 1 ∷ 0 ∷ 0 ∷ 0 ∷ 0 ∷ []))
@@ -261,7 +279,7 @@ cases =
 
 -- the definitions give every case its output
 pub marked : map (λ c. outcome (c .input)) cases ≡ map (λ c. c .output) cases
-unfolding number signed readPlanIn readFrom firstFault fault after width lastOperand mayFollow inRange taskInRange arcInRange slot ready first policyKey key freeMasks neighbouring masksOf choices edgeOf edgesAt edges found nodes tooLarge readCertificateIn readPotentials readSteps check verdict fractionOk gcd potentialsOk cycleOk follow allowance thousandths trace traceRun forth back widened arcsOf releases gapPlan taskGap pairs manyPairs combined combine planBytesIn certificateBytesIn bytes complement registers refusalOf ranTo afterWrite
+unfolding number signed readPlanIn readFrom firstFault fault after width lastOperand mayFollow inRange taskInRange arcInRange slot ready first policyKey key freeMasks neighbouring masksOf choices edgeOf edgesAt edges found nodes tooLarge readCertificateIn readPotentials readSteps check verdict fractionOk gcd potentialsOk cycleOk follow allowance thousandths trace traceRun forth back widened arcsOf releases gapPlan groupGap pairs manyPairs combined combine planBytesIn certificateBytesIn bytes complement registers refusalOf ranTo afterWrite
 marked = refl
 
 -- ---- the passes of A, B and C, and of a plan whose nodes have to be taken by number
@@ -309,3 +327,32 @@ unfolding number readPlanIn readFrom firstFault fault after width lastOperand ma
 passes-E =
     let end = map some (pos 0 ∷ pos 0 ∷ pos 0 ∷ pos 69 ∷ pos 69 ∷ []) in
     record { read = refl; passes = more {ds = beginning 5} {es = end} refl (last {ds = end} refl) }
+
+-- ---- what does not keep a gap over tasks 1 and 2
+
+abbrev pub bothTasks : ℕ → Bool
+bothTasks = inGroup (taskSet 3)
+
+-- releases of two tasks are no single one
+two-apart : (g s t i j : ℕ) → i < j → ((s ≡ t) × (i ≡ j)) ⊎ (s + g ≤ t) → s + g ≤ t
+two-apart g s t i j h e = ⊎-elim (λ same. absurd (omega (arith, same .1))) (λ far. far) e
+
+-- "so two of them never share a slot", with a gap of 1 neither
+pub no-slot-shared : GapKept bothTasks 2 1 (3 ∷ []) → ⊥
+no-slot-shared k =
+    omega (
+      arith,
+      two-apart 1 0 0 1 2 (omega arith)
+          (k .apart 0 1 0 2 (record { slot = omega arith; numbered = omega arith; released = tt; ofGroup = tt })
+          (record { slot = omega arith; numbered = omega arith; released = tt; ofGroup = tt }) (omega arith)),
+    )
+
+-- and the gap is not counted for each task by itself
+pub tasks-close-each-other : GapKept bothTasks 2 2 (1 ∷ 2 ∷ []) → ⊥
+tasks-close-each-other k =
+    omega (
+      arith,
+      two-apart 2 0 1 1 2 (omega arith)
+          (k .apart 0 1 1 2 (record { slot = omega arith; numbered = omega arith; released = tt; ofGroup = tt })
+          (record { slot = omega arith; numbered = omega arith; released = tt; ofGroup = tt }) (omega arith)),
+    )

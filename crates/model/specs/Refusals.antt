@@ -63,7 +63,7 @@ notAdmitted = 13
 
 -- Whoever asks for a plan to be written from another.
 
--- 14, a gap of 0 or above 16, or of a task that is not in the plan
+-- 14, a gap of 0 or above 16, or of no task or one that is not in the plan
 abbrev pub badGap : ℕ
 badGap = 14
 

@@ -7,6 +7,7 @@ use Prim.Native.Nat.{ℕ, zero, suc, _+_, _-_, _*_, _/_, _%_, _^_, _<_, _≤_, m
 use native.Mathlib.Nat.{div-one, zero-div, div-eq-of-lt, two-pow-succ, lt-of-lt-of-le, add-sub-of-le}
 use native.Mathlib.Numerals.{one-add}
 use native.Mathlib.Omega.{arith}
+use borrow.Author.Tests.{eqb-false}
 use lib.Bits.{bitAnd, bitOr, and-step, or-step, and-shr, or-shr}
 use lib.Dec.{T, eqb}
 use lib.Pow.{pow-mono, shr-shr}
@@ -105,6 +106,24 @@ pub no-bit : (m : ℕ) → ((k : ℕ) → T (bit m k) → ⊥) → m ≡ 0
 no-bit m h =
     bits-determine m m 0 (lt-pow m) (omega (arith, lt-pow m))
     (λ k l. is-false (bit m k) (h k) ∙ sym (bit-of-zero k))
+
+-- a number above 0 has a bit
+bit-within : (n m : ℕ) → m < 2 ^ n → 1 ≤ m → (k : ℕ) × T (bit m k)
+bit-within zero m h l = absurd (omega arith)
+bit-within (suc n) m h l = go (eqb (m % 2) 1) refl (λ i. bit-within n (m / 2) (omega (arith, two-pow-succ n)) i)
+  where
+    go : (b : Bool) → eqb (m % 2) 1 ≡ b → (1 ≤ m / 2 → (k : ℕ) × T (bit (m / 2) k)) → (k : ℕ) × T (bit m k)
+    go true e half = (0, holds (bit-zero m ∙ e))
+    go false e half = let r = half (omega (arith, eqb-false (m % 2) 1 e)) in (suc (r .0), subst T (bit-half m (r .0)) (r .1))
+
+pub some-bit : (m : ℕ) → 1 ≤ m → (k : ℕ) × T (bit m k)
+some-bit m h = bit-within m m (lt-pow m) h
+
+-- a number without a bit from n on is below 2 ^ n
+pub bits-below : (n m : ℕ) → ((k : ℕ) → n ≤ k → T (bit m k) → ⊥) → m < 2 ^ n
+bits-below zero m h = omega (arith, no-bit m (λ k b. h k (omega arith) b))
+bits-below (suc n) m h =
+    omega (arith, two-pow-succ n, bits-below n (m / 2) (λ k l b. h (suc k) (omega arith) (subst T (bit-half m k) b)))
 
 -- no bit of both
 abbrev pub Apart : ℕ → ℕ → Type 0

@@ -91,7 +91,7 @@ module _ (set : ℕ → Bool) (count g : ℕ) (wide : 1 ≤ g) (Q : Plan) (arcs 
   unfolding test
   of-first l ls i h r = (
     below (decLt (i - 1) count),
-    both-hold (set (suc (i - 1))) (bit l (i - 1)) (subst (λ (x : ℕ). T (set x)) (omega (arith, r .numbered)) (r .ofSet)) (r .released),
+    both-hold (set (suc (i - 1))) (bit l (i - 1)) (subst (λ (x : ℕ). T (set x)) (omega (arith, r .numbered)) (r .ofGroup)) (r .released),
   )
     where
       below : Dec (i - 1 < count) → i - 1 < count
@@ -104,14 +104,14 @@ module _ (set : ℕ → Bool) (count g : ℕ) (wide : 1 ≤ g) (Q : Plan) (arcs 
     slot = omega arith;
     numbered = omega arith;
     released = subst (λ (x : ℕ). T (bit l x)) (omega arith) (right-holds (set (suc k)) (bit l k) t);
-    ofSet = left-holds (set (suc k)) (bit l k) t;
+    ofGroup = left-holds (set (suc k)) (bit l k) t;
   }
 
   later : (l : ℕ) (ls : List ℕ) (t i : ℕ) → Release set ls t i → Release set (l ∷ ls) (suc t) i
-  later l ls t i r = record { slot = omega (arith, r .slot); numbered = r .numbered; released = r .released; ofSet = r .ofSet }
+  later l ls t i r = record { slot = omega (arith, r .slot); numbered = r .numbered; released = r .released; ofGroup = r .ofGroup }
 
   sooner : (l : ℕ) (ls : List ℕ) (t i : ℕ) → Release set (l ∷ ls) (suc t) i → Release set ls t i
-  sooner l ls t i r = record { slot = omega (arith, r .slot); numbered = r .numbered; released = r .released; ofSet = r .ofSet }
+  sooner l ls t i r = record { slot = omega (arith, r .slot); numbered = r .numbered; released = r .released; ofGroup = r .ofGroup }
 
   -- a label, and the run after it: no release
   kept-none : (l : ℕ) (ls : List ℕ) (s : ℕ) → l < 2 ^ count → releases set count l ≡ 0 → Kept (s - 1) ls → Kept s (l ∷ ls)

@@ -45,6 +45,7 @@ pub mod PlanRead
 pub mod PlanForm
 pub mod Automata
 pub mod GapRuns
+pub mod Groups
 pub mod Writings
 pub mod Gaps
 pub mod Pairs

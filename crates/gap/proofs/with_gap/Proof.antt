@@ -12,8 +12,8 @@ returns : tie.Need-returns
 returns c =
     let s = c .before .before in
     let a = s .args in (
-      replaced-sized (a .plan) (s .pre .0) (a .task) (a .slots) (c .table .result) (c .table .ensures),
-      replaced-plan (a .plan) (s .pre .0) (a .task) (a .slots) (c .table .result) (c .table .ensures) (s .pre .1) (s .pre .2) (s .pre .3) (s .pre .4),
+      replaced-sized (a .plan) (s .pre .0) (a .set) (a .slots) (c .table .result) (c .table .ensures),
+      replaced-plan (a .plan) (s .pre .0) (a .set) (a .slots) (c .table .result) (c .table .ensures) (s .pre .1) (s .pre .2),
     )
 
 pub with-gap-spec : {M : Type 1} → statement M

@@ -13,10 +13,10 @@ use lib.Dec.{eqb}
 use lib.Pow.{pow-mono, pow-pos}
 use Rattle.model.specs.Lists.{any, upFrom, ones}
 use Rattle.model.specs.Masks.{bitRun, neighbouring}
-use Rattle.model.proofs.Runs.{one-moved, run-fits}
+use Rattle.model.proofs.Runs.{one-moved, ones-counted, run-fits}
 use Rattle.plan.specs.View.{taskView}
 use Rattle.graph.specs.Choice.{fitsTask}
-use Rattle.masks.proofs.Groups.{ones-le, ones-counted}
+use Rattle.masks.proofs.Groups.{ones-le}
 use Rattle.graph.proofs.Search.{within, beyond, fits-zero, fits-idle, fits-beyond, fits-other, fits-work}
 use Rattle.graph.proofs.fits.Statement.{statement}
 use Rattle.graph.proofs.fits.Tie as tie

@@ -12,7 +12,7 @@ use lib.Dec.{eqb}
 use lib.ListN.{length}
 use Rattle.model.specs.Limits.{maxWindow}
 use Rattle.model.specs.Lists.{consIf, keep, ones}
-use Rattle.masks.proofs.Groups.{ones-counted}
+use Rattle.model.proofs.Runs.{ones-counted}
 use Rattle.words.proofs.Put.{put-none, put-byte, put-as}
 use Rattle.mask_text.proofs.list_mask.Statement.{statement}
 use Rattle.mask_text.proofs.list_mask.Tie as tie

@@ -22,6 +22,9 @@ combine-case-requires c κs = search needs
 trace-call-case-requires : tie.Need-trace-call-case-requires
 trace-call-case-requires c κs = search needs
 
+gap-case-requires-2 : tie.Need-gap-case-requires-2
+gap-case-requires-2 c κs = search needs
+
 returns : tie.Need-returns
 returns c = sym (ap isPlanKind (c .before .match .keys1))
 
@@ -38,9 +41,12 @@ returns-5 : tie.Need-returns-5
 returns-5 c = sym (ap isPlanKind (c .before .match .keys5))
 
 returns-6 : tie.Need-returns-6
-returns-6 c =
+returns-6 c = sym (ap isPlanKind (c .before .match .keys6))
+
+returns-7 : tie.Need-returns-7
+returns-7 c =
     simp
-    (ne-eqb _ _ (c .match .rest .0 .0 .0 .0 .1), ne-eqb _ _ (c .match .rest .0 .0 .0 .1), ne-eqb _ _ (c .match .rest .0 .0 .1), ne-eqb _ _ (c .match .rest .0 .1), ne-eqb _ _ (c .match .rest .1))
+    (ne-eqb _ _ (c .match .rest .0 .0 .0 .0 .0 .1), ne-eqb _ _ (c .match .rest .0 .0 .0 .0 .1), ne-eqb _ _ (c .match .rest .0 .0 .0 .1), ne-eqb _ _ (c .match .rest .0 .0 .1), ne-eqb _ _ (c .match .rest .0 .1), ne-eqb _ _ (c .match .rest .1))
 
 pub run-spec : {M : Type 1} → statement M
 run-spec =
@@ -51,9 +57,11 @@ run-spec =
     gap-case-requires
     combine-case-requires
     trace-call-case-requires
+    gap-case-requires-2
     returns
     returns-2
     returns-3
     returns-4
     returns-5
-    returns-6)
+    returns-6
+    returns-7)
