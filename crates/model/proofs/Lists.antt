@@ -79,7 +79,7 @@ module _ {ℓ} {A : Type ℓ} where
   mem-cons_if-tail true x m = Memᴰ.tail m
   mem-cons_if-tail false x m = m
 
-  pub mem-keep : (f : A → Bool) {l : List A} {a : A} → Memᴰ a l → f a ≡ true → Memᴰ a (keep f l)
+  pub mem-keep : (f : A → Bool) {a : A} {l : List A} → Memᴰ a l → f a ≡ true → Memᴰ a (keep f l)
   mem-keep f (Memᴰ.head {x = x} {xs = xs} p) e = mem-cons_if-head (f x) (keep f xs) p (ap f (sym p) ∙ e)
   mem-keep f (Memᴰ.tail {x = x} m) e = mem-cons_if-tail (f x) x (mem-keep f m e)
 
@@ -139,7 +139,7 @@ module _ {ℓ κ} {A : Type ℓ} {B : Type κ} where
       ⊎_elim (λ h. (x, Memᴰ.head refl, h)) (λ h. let r = mem-of-flat_map f l h in (r.0, Memᴰ.tail r.1, r.2))
       (Memᴰ.append_cases (f x) m)
 
-  pub mem-flat_map : (f : A → List B) {l : List A} {a : A} {b : B} → Memᴰ a l → Memᴰ b (f a) → Memᴰ b (flat_map f l)
+  pub mem-flat_map : (f : A → List B) {a : A} {b : B} {l : List A} → Memᴰ a l → Memᴰ b (f a) → Memᴰ b (flat_map f l)
   mem-flat_map f {b = b} (Memᴰ.head {xs = xs} p) m =
       Memᴰ.append_left (flat_map f xs) (subst (λ y. Memᴰ b (f y)) p m)
   mem-flat_map f (Memᴰ.tail {x = x} m) m' = Memᴰ.append_right (f x) (mem-flat_map f m m')
