@@ -1,4 +1,6 @@
 // A certificate's potentials: their limit, and the allowance.
+#![tactic(auto)]
+
 ghost use Rattle.std.specs.Prelude.{◌≡◌, true, cond};
 ghost use Rattle.std.specs.Int.Signed.{le_z};
 ghost use Rattle.model.specs.Edition.{long_reads};

@@ -1,4 +1,6 @@
 // The answer of a call that writes bytes, as a program writes it: those bytes, or the line of the refusal; and the line of what the call tells.
+#![tactic(auto)]
+
 ghost use Rattle.std.specs.Prelude.{◌≡◌, ◌≤◌, length};
 ghost use Rattle.io.specs.Counts.{IsPrefixLen};
 ghost use Rattle.model.specs.Bytes.{Put};

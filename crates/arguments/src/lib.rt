@@ -1,9 +1,11 @@
 // Numbers in a program's arguments.
+#![tactic(auto)]
+
 ghost use Rattle.std.specs.Prelude.{◌≡◌, List, ℕ, ◌+◌, ◌*◌, ◌≤◌};
 ghost use Rattle.arguments.specs.Decimal.{decimal_in, capped, number_of};
 
 // What an argument is: a number, or none.
-#[derive(Drop)]
+#[derive(Clone, Copy)]
 pub enum Number {
     Nothing,
     Of(u64),

@@ -1,5 +1,7 @@
 // Runs each case of cases.bin, and writes what its kind writes for it. The file is one of the program `cases`; the kinds are those of
 // register blocks.
+#![tactic(auto)]
+
 mod replays; // replays.rt: a plan and all writes, for the call without state
 mod scripts; // scripts.rt: a plan and a script of writes
 

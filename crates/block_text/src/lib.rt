@@ -1,4 +1,6 @@
 // The text of writes to the register block: a line for each, its refusal or 0 and the sixteen bytes as they then read.
+#![tactic(auto)]
+
 ghost use Rattle.std.specs.Prelude.{◌≡◌, ◌+◌, ◌*◌, ◌/◌, ◌≤◌, length};
 ghost use Rattle.model.specs.Bytes.{Put};
 ghost use Rattle.model.specs.Controller.{after_writes, writes_in};
@@ -20,7 +22,7 @@ pub const PART: usize = 2048;
 const TEXT_ROOM: usize = LINE_ROOM * (PART / 2);
 
 // The block after writes, and the place after their lines.
-#[derive(Drop)]
+#[derive(Clone, Copy)]
 pub struct Lines {
     pub block: Block,
     pub end: usize,

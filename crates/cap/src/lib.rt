@@ -1,5 +1,7 @@
 // Whether a run kept to its cap: the log of its labels, read whole or in parts, and the first slot in which the last slots release too
 // much work.
+#![tactic(auto)]
+
 ghost use Rattle.std.specs.Prelude.{◌≡◌, true, List, [], ◌++◌, map, ℕ, ◌+◌, ◌-◌, ◌≤◌, length, get_or, drop};
 ghost use Rattle.model.specs.Cap.{label_work, cap_in_range};
 ghost use Rattle.model.specs.Limits.{max_cap_work};
@@ -21,7 +23,7 @@ const MAX_WORK: u64 = 2560;
 const PLACES: usize = MAX_SLOTS as usize;
 
 // A cap on the work of a plan's tasks: the work of each label, how many labels the tasks have, the slots in a row, and the most work in them.
-#[derive(Drop)]
+#[derive(Clone, Copy)]
 pub struct Cap {
     pub works: [u16; plan::LABELS],
     pub labels: usize,
@@ -31,7 +33,7 @@ pub struct Cap {
 
 // After the labels of a log: how many they are, the work of the last slots that the cap is for, and the last labels, with empty ones before
 // the first.
-#[derive(Drop)]
+#[derive(Clone, Copy)]
 pub struct Window {
     pub slots: u64,
     pub sum: u32,
@@ -39,7 +41,7 @@ pub struct Window {
 }
 
 // Why there is no answer, the first slot that exceeds the cap, or that none does.
-#[derive(Drop)]
+#[derive(Clone, Copy)]
 pub enum Answer {
     Refused(Refusal),
     Over(u64),
@@ -47,14 +49,14 @@ pub enum Answer {
 }
 
 // The answer for a log so far, and its window, by which the log goes on while the answer is that the cap is kept.
-#[derive(Drop)]
+#[derive(Clone, Copy)]
 pub struct Watch {
     pub answer: Answer,
     pub window: Window,
 }
 
 // A cap, and what is known before the first label.
-#[derive(Drop)]
+#[derive(Clone, Copy)]
 pub struct Begun {
     pub cap: Cap,
     pub watch: Watch,

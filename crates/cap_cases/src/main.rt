@@ -1,5 +1,7 @@
 // Runs each case of cases.bin, and writes what its kind writes for it. The file is one of the program `cases`; the kinds are those of
 // caps.
+#![tactic(auto)]
+
 mod calls; // calls.rt: a plan, a cap and a log, for the call
 mod parts; // parts.rt: a plan, a cap and a log in parts
 

@@ -1,5 +1,7 @@
 // Runs each case of cases.bin, and writes what its kind writes for it. The file has the number of cases in two bytes, and then
 // for each one byte with its kind and its fields, each behind two bytes of its length.
+#![tactic(auto)]
+
 ghost use Rattle.std.specs.Prelude.{◌≡◌, ◌||◌};
 ghost use Rattle.plan_cases.specs.Kinds.{is_plan_kind};
 ghost use Rattle.edition_cases.specs.Kinds.{is_edition_kind};

@@ -1,4 +1,6 @@
 // Certificates: the form, read in place.
+#![tactic(auto)]
+
 ghost use Rattle.std.specs.Prelude.{◌≡◌, ◌⊎◌, ◌+◌, ◌*◌, ◌^◌, ◌≤◌, ◌<◌, length, drop};
 ghost use Rattle.std.proofs.Math.Option.{some};
 ghost use Rattle.model.specs.Edition as edition_model;
@@ -27,7 +29,7 @@ const MAX_STEPS: usize = Node::MAX_STEPS;
 
 // A certificate's numbers, and where its lists stand: `count` potentials after the head, and `steps`
 // steps from the place `from` on.
-#[derive(Drop)]
+#[derive(Clone, Copy)]
 pub struct Parts {
     pub p: u32,
     pub q: u32,
@@ -37,27 +39,27 @@ pub struct Parts {
     pub steps: usize,
 }
 
-#[derive(Drop)]
+#[derive(Clone, Copy)]
 pub enum Form {
     Fault,
     Read(Parts),
 }
 
 // The place of the next byte to be read.
-#[derive(Drop)]
+#[derive(Clone, Copy)]
 struct Cursor {
     at: usize,
 }
 
 // A certificate's bytes, and the place of the next one to be read.
-#[derive(Drop)]
+#[derive(Clone, Copy)]
 pub struct Reader<'a> {
     src: &'a [u8],
     at: usize,
 }
 
 // So many items, and the cursor after them.
-#[derive(Drop)]
+#[derive(Clone, Copy)]
 enum Run {
     Fault,
     Items(usize, Cursor),

@@ -1,4 +1,6 @@
 // Certificates written piece by piece.
+#![tactic(auto)]
+
 ghost use Rattle.std.specs.Prelude.{◌≡◌, ◌∷◌, ◌+◌, ◌*◌, ◌≤◌, ◌<◌, length};
 ghost use Rattle.model.specs.Bytes.{bytes, complement, overwrite};
 ghost use Rattle.model.specs.Edition.{long_reads};

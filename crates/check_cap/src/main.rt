@@ -2,6 +2,8 @@
 // of the first slot that exceeds it, `kept`, or `refused n`. The arguments are SLOTS and WORK; with others a line on standard error says so, and
 // nothing is written. A file that cannot be opened reads as empty. What plan.bin holds past this buffer changes no answer (theory:
 // long-plan). labels.bin may have any size: it is read in parts, which changes no answer (cap: feeds-parts), up to the one that tells it.
+#![tactic(auto)]
+
 ghost use Rattle.std.specs.Prelude.{◌≡◌, List, ℕ, ◌*◌, ◌≤◌, length};
 ghost use Rattle.cap.specs.View.{Watching, Feeds, Checks};
 ghost use Rattle.check_cap.specs.Commands.{goes_on, part_bytes, most_parts, counted_is, command_is, Runs};
@@ -17,14 +19,14 @@ const PART: usize = 65536;
 const MOST_PARTS: u64 = 281474976710655;
 
 // What the program is asked for: a cap of so many slots and so much work.
-#[derive(Drop)]
+#[derive(Clone, Copy)]
 enum Command {
     Check(u64, u64),
     Unknown,
 }
 
 // What is known after a part of the log, and how many labels the part had.
-#[derive(Drop)]
+#[derive(Clone, Copy)]
 struct PartFed {
     watch: Watch,
     count: usize,

@@ -1,5 +1,7 @@
 // Reads plan.bin and cert.bin, and writes the line of the check: `p q N K m`, or `refused n`. A file that cannot be
 // opened reads as empty. What a file holds past these buffers changes no answer (theory: long-plan, long-certificate).
+#![tactic(auto)]
+
 use libc::STDOUT_FILENO;
 
 fn main() {

@@ -1,4 +1,6 @@
 // The check of a certificate against a plan: the fraction and what it allows, or the refusal of the first fault.
+#![tactic(auto)]
+
 ghost use Rattle.std.specs.Prelude.{◌≡◌, ◌≤◌, length};
 ghost use Rattle.model.specs.Edition.{long_reads};
 ghost use Rattle.model.specs.Bytes.{Only};
@@ -24,7 +26,7 @@ use potentials::Claim;
 use refusals::Refusal;
 
 // A refusal, or the fraction p/q, the number of nodes and the allowance K.
-#[derive(Drop)]
+#[derive(Clone, Copy)]
 pub enum Answer {
     Refused(Refusal),
     Share { p: u32, q: u32, n: usize, k: u64 },
@@ -34,7 +36,7 @@ pub enum Answer {
 pub const WORK_ROOM: usize = Node::WORK_ROOM;
 
 // A plan's rules, and the number of its nodes.
-#[derive(Drop)]
+#[derive(Clone, Copy)]
 struct Graph {
     rules: Rules,
     n: usize,

@@ -1,4 +1,6 @@
 // A cycle of steps in lent memory: the gains of its best edges, the fraction in lowest terms, and its steps in a certificate.
+#![tactic(auto)]
+
 ghost use Rattle.std.specs.Prelude.{◌≡◌, List, ℕ, ◌+◌, ◌*◌, ◌/◌, ◌≤◌, ◌<◌, length};
 ghost use Rattle.model.specs.Check as check_model;
 ghost use Rattle.model.specs.Graph as model;
@@ -17,7 +19,7 @@ use node::Node;
 use policy::Rules;
 
 // A best edge of a label between two nodes: both gains, and the masks, packed.
-#[derive(Drop)]
+#[derive(Clone, Copy)]
 struct BestEdge {
     label: u8,
     kept: u32,
@@ -26,13 +28,13 @@ struct BestEdge {
 }
 
 // The sums of both gains.
-#[derive(Drop)]
+#[derive(Clone, Copy)]
 pub struct Sums {
     pub kept: u32,
     pub ideal: u32,
 }
 
-#[derive(Drop)]
+#[derive(Clone, Copy)]
 pub struct Fraction {
     pub p: u32,
     pub q: u32,

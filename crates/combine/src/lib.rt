@@ -1,4 +1,6 @@
 // Two plans over the same tasks as one that admits what both admit.
+#![tactic(auto)]
+
 ghost use Rattle.std.specs.Prelude.{◌≡◌, ◌≤◌, ◌<◌, length, replicate};
 ghost use Rattle.model.specs.Limits.{max_tasks};
 ghost use Rattle.model.specs.Edition.{plan_room};
@@ -97,7 +99,7 @@ fn join(order: &mut [u8; MAX_STATES], numbers: &mut [u8; STATE_PAIRS], n: usize,
 }
 
 // The number of pairs known, and the table's entry of a pair and a label: the number of the pair that it leads to and 1, or 0.
-#[derive(Drop)]
+#[derive(Clone, Copy)]
 struct Step {
     known: usize,
     entry: u8,
@@ -127,7 +129,7 @@ fn follow(
 }
 
 // The number of pairs known, and the table's entries of a pair, by label.
-#[derive(Drop)]
+#[derive(Clone, Copy)]
 struct Row {
     known: usize,
     entries: [u8; plan::LABELS],
@@ -163,7 +165,7 @@ fn explore(
 }
 
 // The states of an automaton, and the table of their next states; or more states than there may be.
-#[derive(Drop)]
+#[derive(Clone, Copy)]
 struct Automaton {
     states: usize,
     next: [u8; plan::PAIRS],

@@ -1,4 +1,6 @@
 // The controller's register block: a model of the part for firmware tests. It is set up from a plan and changed by register writes.
+#![tactic(auto)]
+
 ghost use Rattle.std.specs.Prelude.{◌≡◌, [], nat_lt};
 ghost use Rattle.model.specs.Controller as model;
 ghost use Rattle.model.specs.Controller.{writes_in};
@@ -35,7 +37,7 @@ const FINISHED: u8 = 1;
 const NOT_ADMITTED: u8 = 2;
 
 // What writes change: the registers, and what no byte shows, the cells of the policy's jobs and the automaton's state.
-#[derive(Drop)]
+#[derive(Clone, Copy)]
 pub struct Block {
     pub label: u8,
     pub status: u8,
@@ -47,7 +49,7 @@ pub struct Block {
 }
 
 // The part: the rules and the table of next states of its plan, and its block.
-#[derive(Drop)]
+#[derive(Clone, Copy)]
 pub struct Controller {
     pub rules: Rules,
     pub next: [u8; plan::PAIRS],
@@ -55,21 +57,21 @@ pub struct Controller {
 }
 
 // What a write leaves: the block, and the refusal, 0 for none.
-#[derive(Drop)]
+#[derive(Clone, Copy)]
 pub struct Stepped {
     pub block: Block,
     pub refusal: u64,
 }
 
 // A part after a write, and the refusal, 0 for none.
-#[derive(Drop)]
+#[derive(Clone, Copy)]
 pub struct Written {
     pub controller: Controller,
     pub refusal: u64,
 }
 
 // Whether a part could be set up, and the part; one of no plan where the outcome is a fault.
-#[derive(Drop)]
+#[derive(Clone, Copy)]
 pub struct SetUp {
     pub outcome: Outcome,
     pub controller: Controller,

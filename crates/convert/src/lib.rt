@@ -1,4 +1,6 @@
 // Plans written in another edition: forth, from the first edition to the long-read one, and back.
+#![tactic(auto)]
+
 ghost use Rattle.std.specs.Prelude.{◌≡◌, ◌≤◌, length};
 ghost use Rattle.model.specs.Edition.{first_edition, plan_room_in};
 ghost use Rattle.model.specs.Lists.{all};

@@ -1,5 +1,7 @@
 // Reads plan.bin, and writes the number of passes by which the solver finds the potentials of its certificate, or `refused n`. A file that
 // cannot be opened reads as empty. What it holds past this buffer changes no answer (theory: long-plan).
+#![tactic(auto)]
+
 use libc::STDOUT_FILENO;
 
 fn main() {

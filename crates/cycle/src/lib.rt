@@ -1,4 +1,6 @@
 // The cycle of a certificate: its steps followed as edges of the graph.
+#![tactic(auto)]
+
 ghost use Rattle.std.specs.Prelude.{◌≡◌, ◌&&◌, ◌*◌, ◌<◌, eqb, ltb};
 ghost use Rattle.model.specs.Edition.{long_reads};
 ghost use Rattle.model.specs.Check.{cycle_ok};
@@ -17,7 +19,7 @@ use node::Node;
 use policy::Rules;
 
 // Where steps lead and the sums of both gains, if they are edges.
-#[derive(Drop)]
+#[derive(Clone, Copy)]
 struct Walked {
     found: bool,
     at: Node,

@@ -1,4 +1,6 @@
 // The nodes of a plan's graph, discovered in order and kept in the node store.
+#![tactic(auto)]
+
 ghost use Rattle.std.specs.Prelude.{◌≡◌, length, [], ◌∷◌, ◌^◌, ◌<◌, ◌≤◌};
 ghost use Rattle.std.proofs.Math.Option.{some};
 ghost use Rattle.model.specs.Graph.{edges_to, nodes};
@@ -22,7 +24,7 @@ const TAKEN: usize = policy::CELLS;
 const STATE: usize = TAKEN + 2;
 
 // Where edges leave: a node with its number, and their label.
-#[derive(Drop)]
+#[derive(Clone, Copy)]
 pub struct Source {
     pub number: usize,
     pub node: Node,
@@ -107,7 +109,7 @@ fn add_outcomes(
 }
 
 // A node, and the label of the edges that leave it.
-#[derive(Drop)]
+#[derive(Clone, Copy)]
 struct Departure {
     node: Node,
     label: u8,
@@ -212,7 +214,7 @@ fn explore_all(
 }
 
 // So many nodes, or too many.
-#[derive(Drop)]
+#[derive(Clone, Copy)]
 pub enum Discovered {
     TooMany,
     Nodes(usize),

@@ -1,5 +1,7 @@
 // The search for the distances of a plan's nodes at a fraction: passes over the edges, until none gives a smaller distance or a cycle is
 // found that costs less than 0.
+#![tactic(auto)]
+
 ghost use Rattle.std.specs.Prelude.{◌≡◌, true, ◌||◌, ◌<◌, ◌≤◌, eqb, length};
 ghost use Rattle.std.specs.Int.Signed.{lt_z};
 ghost use Rattle.model.specs.Plan.{Plan};
@@ -15,7 +17,7 @@ use node::Node;
 use policy::Rules;
 
 // What the search charges for both gains, q for the policy's and p for the clairvoyant's, and the number of nodes.
-#[derive(Drop)]
+#[derive(Clone, Copy)]
 pub struct Prices {
     pub p: u32,
     pub q: u32,
@@ -23,21 +25,21 @@ pub struct Prices {
 }
 
 // What trying edges did: whether a distance has moved, and the steps of a cycle that was found, 0 for none.
-#[derive(Drop)]
+#[derive(Clone, Copy)]
 pub struct Tried {
     pub moved: bool,
     pub steps: usize,
 }
 
 // What the passes came to: the steps of a cycle that was found, 0 for none, and the number of passes, the last included.
-#[derive(Drop)]
+#[derive(Clone, Copy)]
 pub struct Settled {
     pub steps: usize,
     pub passes: usize,
 }
 
 // Where a label leads from a numbered node: so many noted patterns, each with the policy's cells and gain and the automaton's state.
-#[derive(Drop)]
+#[derive(Clone, Copy)]
 struct Outcomes {
     number: usize,
     label: u8,

@@ -1,4 +1,6 @@
 // Cases of calls that carry a plan or a certificate from one edition to the other: each kind reads its fields and writes what is due for them.
+#![tactic(auto)]
+
 pub mod conversions; // conversions.rt: a plan of either edition, and an output
 pub mod widenings; // widenings.rt: a certificate of the first edition, and the output lent to the widen call
 

@@ -1,4 +1,6 @@
 // The calls for programs in C and Rust: numbers, byte slices and arrays of numbers alone.
+#![tactic(auto)]
+
 ghost use Rattle.std.specs.Prelude.{◌≡◌, leb, length};
 ghost use Rattle.model.specs.Bytes.{work_after};
 ghost use Rattle.model.specs.Check.{check};

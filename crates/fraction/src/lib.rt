@@ -1,4 +1,6 @@
 // The fraction: lowest terms, limits, thousandths.
+#![tactic(auto)]
+
 ghost use Rattle.std.specs.Prelude.{◌≡◌};
 ghost use Rattle.model.specs.Check as check_model;
 ghost use Rattle.model.specs.Thousandths as print_model;
@@ -11,7 +13,7 @@ const MAX_P: u32 = Node::MAX_P;
 const MAX_Q: u32 = Node::MAX_Q;
 
 // 1000 p / q to the nearest, or none for 1/0.
-#[derive(Drop)]
+#[derive(Clone, Copy)]
 pub enum Permille {
     None,
     Some(u64),

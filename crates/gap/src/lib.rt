@@ -1,4 +1,6 @@
 // A plan with a minimum gap between the releases of a group of tasks: a set, or one task.
+#![tactic(auto)]
+
 ghost use Rattle.std.specs.Prelude.{◌≡◌, map, ◌≤◌, length};
 ghost use Rattle.model.specs.Limits.{max_gap};
 ghost use Rattle.model.specs.Edition.{plan_room};
@@ -22,14 +24,14 @@ const MAX_GAP: u64 = Node::MAX_STATES as u64;
 const MAX_TASKS: u64 = Node::MAX_TASKS as u64;
 
 // The tasks that share a gap: one by its number, or a set, written as a label is.
-#[derive(Drop)]
+#[derive(Clone, Copy)]
 pub enum Group {
     Task(u64),
     Set(u64),
 }
 
 // A set of tasks, written as a label is, of a plan with so many tasks, and the slots from a release of one of them to the next.
-#[derive(Drop)]
+#[derive(Clone, Copy)]
 struct Gap {
     count: usize,
     set: u8,

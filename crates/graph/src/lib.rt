@@ -1,4 +1,6 @@
 // The graph of a plan: where a label leads from a node.
+#![tactic(auto)]
+
 ghost use Rattle.std.specs.Prelude.{◌≡◌, cond, [], ◌∷◌, ℕ, suc, ◌+◌, ◌-◌, ◌*◌, ◌/◌, ◌%◌, ◌^◌, ◌≤◌, ◌<◌, eqb, length, get_or, drop, replicate};
 ghost use Rattle.model.specs.Bytes.{part};
 ghost use Rattle.model.specs.Limits.{max_tasks, max_window, max_value, max_states};
@@ -56,7 +58,7 @@ const MASK_BASE: u64 = 65536;
 const WORD: u64 = 4294967296;
 
 // The tasks of a plan, and a label.
-#[derive(Drop)]
+#[derive(Clone, Copy)]
 pub struct Release {
     pub tasks: [Task; MAX_TASKS],
     pub count: usize,
@@ -64,7 +66,7 @@ pub struct Release {
 }
 
 // The masks of the table from `at` up to `end`, or, of a locked task, `end` runs from `at` up.
-#[derive(Drop)]
+#[derive(Clone, Copy)]
 struct Span {
     at: usize,
     end: usize,
@@ -330,7 +332,7 @@ fn note_choices(release: Release, taken: u16, wanted: u16, notes: &mut [u32; NOT
 }
 
 // What a label does at a node: the policy's slot, and so many patterns are noted.
-#[derive(Drop)]
+#[derive(Clone, Copy)]
 pub struct Noted {
     pub done: Done,
     pub count: usize,
@@ -361,14 +363,14 @@ pub fn reach(
 }
 
 // Where a choice leads, if there is one: the pattern, and the gain.
-#[derive(Drop)]
+#[derive(Clone, Copy)]
 pub enum Lead {
     None,
     Some(u16, u32),
 }
 
 // Masks for the tasks before `task`: the pattern and the gain with them.
-#[derive(Drop)]
+#[derive(Clone, Copy)]
 struct Chosen {
     task: usize,
     pattern: u16,
@@ -514,7 +516,7 @@ fn choice_at(rules: Rules, taken: u16, label: u8, masks: u64) -> Lead
 }
 
 // An edge, if there is one: where it leads and both gains.
-#[derive(Drop)]
+#[derive(Clone, Copy)]
 pub struct Edge {
     pub found: bool,
     pub to: Node,

@@ -1,4 +1,6 @@
 // What a search for distances has found, in lent memory behind the store: a link to each node, and the steps of a cycle.
+#![tactic(auto)]
+
 ghost use Rattle.std.specs.Prelude.{◌≡◌, ◌+◌, ◌≤◌, ◌<◌, length};
 ghost use Rattle.model.specs.Limits.{max_nodes, max_steps};
 ghost use Rattle.theory.specs.Search.{Before};
@@ -7,7 +9,7 @@ ghost use Rattle.links.specs.Links.{links_end, link_in, taken_in, state_in, mark
 use node::Node;
 
 // A link: the distance of a node, its parent, the label that leads from there to it, and a mark.
-#[derive(Drop)]
+#[derive(Clone, Copy)]
 pub struct Link {
     pub distance: i64,
     pub parent: usize,
@@ -23,14 +25,14 @@ pub const WAITING: u8 = 1;
 pub const TRIED: u8 = 2;
 
 // Where a node stands on the way up from another by the parents: not on it, or so many steps above.
-#[derive(Drop)]
+#[derive(Clone, Copy)]
 pub enum Way {
     Apart,
     Above(usize),
 }
 
 // A step of a cycle: the node that it leaves, and its label.
-#[derive(Drop)]
+#[derive(Clone, Copy)]
 pub struct Taken {
     pub node: usize,
     pub label: u8,

@@ -1,4 +1,6 @@
 // Writes the mask table in its order, fewest ones first, one decimal number a line.
+#![tactic(auto)]
+
 use libc::STDOUT_FILENO;
 
 fn main() {

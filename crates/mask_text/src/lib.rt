@@ -1,4 +1,6 @@
 // The mask table, made from its order alone, and its text.
+#![tactic(auto)]
+
 ghost use Rattle.std.specs.Prelude.{◌≡◌, [], ◌∷◌, ◌+◌, ◌≤◌, ◌<◌, eqb, length};
 ghost use Rattle.model.specs.Bytes.{Put};
 ghost use Rattle.model.specs.Limits.{max_window};

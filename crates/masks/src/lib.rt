@@ -1,4 +1,6 @@
 // The masks of ten bits, in the order of the constant table.
+#![tactic(auto)]
+
 ghost use Rattle.std.specs.Prelude.{◌≡◌, suc, ◌+◌, ◌-◌, ◌*◌, ◌^◌, ◌<◌, ◌≤◌, ltb, length};
 ghost use Rattle.model.specs.Limits.{max_window};
 ghost use Rattle.model.specs.Lists.{keep, one};

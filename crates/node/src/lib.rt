@@ -1,11 +1,13 @@
 // A node of the graph, with the limits and the policies' numbers as its constants, and the editions: each number stands here alone.
+#![tactic(auto)]
+
 ghost use Rattle.std.specs.Prelude.{◌≡◌};
 ghost use Rattle.model.specs.Edition as model;
 ghost use Rattle.node.specs.Start.{start_node};
 ghost use Rattle.node.specs.Edition.{edition_of};
 
 // The cells of the policy's jobs, the pattern of taken slots, and the automaton's state.
-#[derive(Drop)]
+#[derive(Clone, Copy)]
 pub struct Node {
     pub cells: [u8; Node::CELLS],
     pub taken: u16,
@@ -78,7 +80,7 @@ impl Node {
 
 // An edition of plan and certificate bytes: the longest window, the largest value, the bytes of a value and those of a mask, and whether
 // it has locks.
-#[derive(Drop)]
+#[derive(Clone, Copy)]
 pub struct Edition {
     pub window: u8,
     pub value: u16,

@@ -1,4 +1,6 @@
 // The plan reader: plan bytes in, the plan as a struct by value out, or the fault.
+#![tactic(auto)]
+
 ghost use Rattle.std.specs.Prelude.{◌≡◌, not, ℕ, ◌+◌, ◌*◌, ◌^◌, ◌<◌, ◌≤◌, [], length, get_or, drop, map, ◌⊎◌};
 ghost use Rattle.model.specs.Bytes.{number};
 ghost use Rattle.model.specs.Lists.{up_from};
@@ -18,7 +20,7 @@ pub const LABELS: usize = 1 << MAX_TASKS;
 
 pub const PAIRS: usize = Node::MAX_STATES * LABELS;
 
-#[derive(Drop)]
+#[derive(Clone, Copy)]
 pub struct Task {
     pub work: u8,
     pub window: u8,
@@ -28,7 +30,7 @@ pub struct Task {
 
 // A sound plan: the first `count` tasks, the policy, the number of states, and for the state S and the
 // label L, at 16 S + L, the next state and 1, or 0 where the label is not admitted.
-#[derive(Drop)]
+#[derive(Clone, Copy)]
 pub struct Plan {
     pub tasks: [Task; MAX_TASKS],
     pub count: usize,
@@ -39,7 +41,7 @@ pub struct Plan {
 
 // Faults of a plan: bytes that end too early, an unknown command, a command out of place, an operand
 // out of range.
-#[derive(Drop)]
+#[derive(Clone, Copy)]
 pub enum Fault {
     BytesEnd,
     UnknownCommand,
@@ -61,14 +63,14 @@ impl Fault {
     }
 }
 
-#[derive(Drop)]
+#[derive(Clone, Copy)]
 pub enum Outcome {
     Sound,
     Faulty(Fault),
 }
 
 // The plan is the empty one where the outcome is a fault.
-#[derive(Drop)]
+#[derive(Clone, Copy)]
 pub struct PlanRead {
     pub outcome: Outcome,
     pub plan: Plan,
@@ -77,7 +79,7 @@ pub struct PlanRead {
 // What the commands read so far say. The first `count` tasks are given, the others are 0; `lock` is the number of the last
 // task locked, 0 for none; 0 stands for a policy or a number of states not given yet; the next arc's 16 S + L must be
 // `least` or more.
-#[derive(Drop)]
+#[derive(Clone, Copy)]
 struct Reading {
     tasks: [Task; MAX_TASKS],
     count: usize,

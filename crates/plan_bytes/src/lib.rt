@@ -1,4 +1,6 @@
 // Plans written into lent bytes.
+#![tactic(auto)]
+
 ghost use Rattle.std.specs.Prelude.{◌≡◌, ◌+◌, ◌*◌, ◌≤◌, ◌<◌, [], ◌∷◌, length};
 ghost use Rattle.model.specs.Bytes.{overwrite, Put};
 ghost use Rattle.model.specs.Limits.{max_tasks};

@@ -1,4 +1,6 @@
 // Cases of calls on plans that build no graph: each kind reads its fields and writes what is due for them.
+#![tactic(auto)]
+
 pub mod combines; // combines.rt: two plans, and an output
 pub mod gaps; // gaps.rt: a plan, a task or a set of tasks and a gap, and an output
 pub mod plans; // plans.rt: a plan

@@ -1,5 +1,7 @@
 // One slot of a policy. A node's jobs are cells, oldest first, one to a task in each age: the cell of age a and
 // task i is at (MAX_WINDOW - 1 - a) * MAX_TASKS + i - 1 and holds the work remaining, 0 for no job.
+#![tactic(auto)]
+
 ghost use Rattle.std.specs.Prelude.{◌≡◌, cond, [], ◌++◌, ◌<◌, eqb, ltb, get_or, replicate};
 ghost use Rattle.model.specs.Limits.{max_tasks};
 ghost use Rattle.model.specs.Plan.{IsSound};
@@ -41,7 +43,7 @@ const PLACES: u32 = 64;
 const NO_CODE: u32 = 4294967295;
 
 // The tasks and the policy of a plan, and for a job in each cell the slots left, and the work below which its lock holds it, 0 without one.
-#[derive(Drop)]
+#[derive(Clone, Copy)]
 pub struct Rules {
     pub tasks: [Task; MAX_TASKS],
     pub count: usize,
@@ -51,7 +53,7 @@ pub struct Rules {
 }
 
 // What a slot leaves: the cells, the cell in which a job ran during the slot, NO_CELL for none, and the gain.
-#[derive(Drop)]
+#[derive(Clone, Copy)]
 pub struct Done {
     pub cells: [u8; CELLS],
     pub ran: u8,

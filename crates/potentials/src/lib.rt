@@ -1,4 +1,6 @@
 // The potentials of a certificate, tested against every edge of the graph.
+#![tactic(auto)]
+
 ghost use Rattle.std.specs.Prelude.{◌≡◌, ◌*◌, ◌<◌, ◌≤◌, pos, length};
 ghost use Rattle.std.proofs.Math.Option.{some};
 ghost use Rattle.std.specs.Int.Signed.{le_z};
@@ -21,7 +23,7 @@ use node::Node;
 use policy::Rules;
 
 // The fraction of a certificate, and the number of nodes.
-#[derive(Drop)]
+#[derive(Clone, Copy)]
 pub struct Claim {
     pub p: u32,
     pub q: u32,
@@ -29,14 +31,14 @@ pub struct Claim {
 }
 
 // What every edge is tested by: the claim, and the rules that the edges follow.
-#[derive(Drop)]
+#[derive(Clone, Copy)]
 struct Setting {
     claim: Claim,
     rules: Rules,
 }
 
 // Where a label leads: so many noted patterns, each with the policy's cells and the automaton's state.
-#[derive(Drop)]
+#[derive(Clone, Copy)]
 struct Outcomes {
     count: usize,
     cells: [u8; policy::CELLS],

@@ -1,5 +1,7 @@
 // What the kinds of cases share: the fields of a case, byte strings of a file, each behind two bytes of its length; memory to lend; whether
 // bytes begin as a case says; and what a call that writes bytes tells and leaves.
+#![tactic(auto)]
+
 ghost use Rattle.std.specs.Prelude.{◌≡◌, min, length, replicate};
 ghost use Rattle.io.specs.Counts.{IsPrefixLen};
 ghost use Rattle.refusals.specs.Told.{result_by};

@@ -1,11 +1,13 @@
 // Why a call gives no result, each refusal with its number.
+#![tactic(auto)]
+
 ghost use Rattle.std.specs.Prelude.{◌≡◌};
 ghost use Rattle.refusals.specs.Numbers.{refusal_number};
 
 use plan::Fault;
 
 // The plan's author, the certificate's, the calling program, whoever lists releases, whoever asks for another plan, whoever asks about a cap.
-#[derive(Drop)]
+#[derive(Clone, Copy)]
 pub enum Refusal {
     Plan(Fault),
     TooManyNodes,
@@ -24,7 +26,7 @@ pub enum Refusal {
 }
 
 // What a call that writes bytes tells: why it wrote none, or how many it wrote.
-#[derive(Drop)]
+#[derive(Clone, Copy)]
 pub enum Answer {
     Refused(Refusal),
     Written(usize),

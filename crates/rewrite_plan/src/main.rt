@@ -2,6 +2,8 @@
 // `group SET SLOTS`, `forth` and `back` read plan.bin, `combine` reads plan.bin and other.bin. Arguments that are no command get a line on
 // standard error, and nothing is written. A file that cannot be opened reads as empty. What it holds past this buffer changes no answer
 // (theory: long-plan).
+#![tactic(auto)]
+
 ghost use Rattle.std.specs.Prelude.{◌≡◌, List, ℕ, ◌≤◌, length};
 ghost use Rattle.model.specs.Bytes.{Put};
 ghost use Rattle.model.specs.Combine as model_combine;
@@ -19,7 +21,7 @@ use gap::Group;
 use libc::STDERR_FILENO;
 
 // The words of the commands.
-#[derive(Drop)]
+#[derive(Clone, Copy)]
 enum Word {
     Gap,
     Group,
@@ -30,7 +32,7 @@ enum Word {
 }
 
 // What the program is asked for.
-#[derive(Drop)]
+#[derive(Clone, Copy)]
 enum Command {
     Space(Group, u64),
     Combine,

@@ -2,6 +2,8 @@
 // refusal or 0, then the sixteen registers. A plan with a fault gets the line `refused n`. A file that cannot be opened reads as empty. What
 // plan.bin holds past this buffer changes no answer (theory: long-plan). writes.bin may have any size: it is read in parts, which changes no
 // line (block_text: lines-parts). A last byte that has no value is no write.
+#![tactic(auto)]
+
 ghost use Rattle.std.specs.Prelude.{◌≡◌, List, ℕ, length};
 ghost use Rattle.model.specs.Controller.{after_writes, writes_in};
 ghost use Rattle.policy.specs.View.{tasks_in};
@@ -13,7 +15,7 @@ use policy::Rules;
 use refusals::{Answer, Refusal};
 
 // The block after a part of the writes, and how many bytes the part had.
-#[derive(Drop)]
+#[derive(Clone, Copy)]
 struct PartRun {
     block: Block,
     count: usize,

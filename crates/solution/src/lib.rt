@@ -1,4 +1,6 @@
 // The smallest fraction of a plan, by cycles that cost less than 0 until there is none.
+#![tactic(auto)]
+
 ghost use Rattle.std.specs.Prelude.{List, ℕ, ◌+◌, ◌≤◌, length};
 ghost use Rattle.model.specs.Plan.{Plan};
 ghost use Rattle.policy.specs.View.{tasks_in, Ruled};
@@ -14,7 +16,7 @@ use distances::Prices;
 use policy::Rules;
 
 // A fraction, the steps of the cycle that attains it, 0 for 1/0, and the number of passes for it.
-#[derive(Drop)]
+#[derive(Clone, Copy)]
 pub struct Solution {
     pub p: u32,
     pub q: u32,

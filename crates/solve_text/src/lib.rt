@@ -1,4 +1,6 @@
 // The certificate of a plan as a program writes it: its bytes, the line of the number of its passes, or that of a refusal.
+#![tactic(auto)]
+
 ghost use Rattle.std.specs.Prelude.{◌≡◌, ◌&&◌, ◌≤◌, leb, length};
 ghost use Rattle.io.specs.Counts.{IsPrefixLen};
 ghost use Rattle.model.specs.Bytes.{work_after};

@@ -1,4 +1,6 @@
 // The solver: the certificate of a plan, or the refusal of the first fault.
+#![tactic(auto)]
+
 ghost use Rattle.std.specs.Prelude.{◌+◌, ◌≤◌, length};
 ghost use Rattle.model.specs.Bytes.{Only};
 ghost use Rattle.model.specs.Limits.{work_room, certificate_room};
@@ -19,7 +21,7 @@ use policy::Rules;
 use refusals::Refusal;
 
 // A refusal, or so many bytes written, and the number of passes for their fraction, the last included.
-#[derive(Drop)]
+#[derive(Clone, Copy)]
 pub enum Answer {
     Refused(Refusal),
     Written { bytes: usize, passes: usize },

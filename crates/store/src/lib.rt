@@ -1,4 +1,6 @@
 // Rows of bytes in lent memory, numbered in order and found by their contents.
+#![tactic(auto)]
+
 ghost use Rattle.std.specs.Prelude.{◌≡◌, ◌+◌, ◌*◌, ◌^◌, ◌≤◌, ◌<◌, length};
 ghost use Rattle.model.specs.Bytes.{bytes, overwrite};
 ghost use Rattle.model.specs.Lists.{same_numbers};
@@ -24,7 +26,7 @@ const CHAIN: usize = BUCKETS + 2 * HASHES;
 pub const STORE_BYTES: usize = CHAIN + 2 * MAX_ROWS;
 
 // A row's index and the number of rows, or that there is no room for one more.
-#[derive(Drop)]
+#[derive(Clone, Copy)]
 pub enum Found {
     Full,
     At { index: usize, count: usize },

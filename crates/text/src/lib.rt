@@ -1,4 +1,6 @@
 // Numbers and lines as text, written into lent bytes.
+#![tactic(auto)]
+
 ghost use Rattle.std.specs.Prelude.{◌++◌, ◌+◌, ◌≤◌, length};
 ghost use Rattle.model.specs.Text.{decimal, field, number_line, refused_line};
 ghost use Rattle.model.specs.Bytes.{Put};

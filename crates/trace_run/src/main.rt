@@ -1,6 +1,8 @@
 // Reads plan.bin and labels.bin, one byte a label, and writes what the plan's policy does, slot by slot. A file that
 // cannot be opened reads as empty. What a file holds past these buffers changes no answer (theory: long-plan,
 // long-labels).
+#![tactic(auto)]
+
 use libc::STDOUT_FILENO;
 
 fn main() {

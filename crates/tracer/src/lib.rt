@@ -1,4 +1,6 @@
 // The trace call: what a policy does, slot by slot.
+#![tactic(auto)]
+
 ghost use Rattle.std.specs.Prelude.{◌≡◌, [], ◌+◌, ◌*◌, ◌≤◌, length};
 ghost use Rattle.std.proofs.Math.Option.{none};
 ghost use Rattle.model.specs.Bytes.{overwrite};
@@ -42,7 +44,7 @@ fn admitted(next: &[u8; plan::PAIRS], labels: &[u8]) -> bool
 }
 
 // What a trace shows of a slot: the task that ran, the gain, and the task of the job that was displaced; 0 for none.
-#[derive(Drop)]
+#[derive(Clone, Copy)]
 pub struct Row {
     pub ran: u8,
     pub gain: u16,

@@ -1,4 +1,6 @@
 // Certificates of the first edition written in the long-read edition: each mask becomes two bytes, all else is as it was.
+#![tactic(auto)]
+
 ghost use Rattle.std.specs.Prelude.{◌≡◌, ◌+◌, ◌*◌, ◌≤◌, length, drop};
 ghost use Rattle.model.specs.Limits.{certificate_room};
 ghost use Rattle.model.specs.Edition.{first_edition, long_reads};

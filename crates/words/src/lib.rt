@@ -1,4 +1,6 @@
 // Big-endian numbers in slices of bytes, and writes that leave every other byte as it was.
+#![tactic(auto)]
+
 ghost use Rattle.std.specs.Prelude.{◌≡◌, ◌+◌, ◌≤◌, ◌<◌, length, get_or, replicate};
 ghost use Rattle.model.specs.Bytes.{number, bytes, signed, complement, part, overwrite};
 

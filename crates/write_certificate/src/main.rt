@@ -1,5 +1,7 @@
 // Reads plan.bin, and writes the bytes of its certificate, or `refused n`. A file that cannot be opened reads as empty. What
 // it holds past this buffer changes no answer (theory: long-plan).
+#![tactic(auto)]
+
 use libc::STDOUT_FILENO;
 
 fn main() {

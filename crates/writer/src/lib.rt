@@ -1,4 +1,6 @@
 // A certificate written from what the solver has found in lent memory.
+#![tactic(auto)]
+
 ghost use Rattle.std.specs.Prelude.{◌≡◌, List, ℕ, ◌+◌, ◌*◌, ◌≤◌, ◌<◌, length};
 ghost use Rattle.model.specs.Bytes.{overwrite};
 ghost use Rattle.model.specs.Graph.{Edge};
