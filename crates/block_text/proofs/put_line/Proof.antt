@@ -13,16 +13,16 @@ use Rattle.block_text.proofs.Line.{line_from, line-next, line-last}
 use Rattle.block_text.proofs.put_line.Statement.{statement}
 use Rattle.block_text.proofs.put_line.Tie as tie
 
-abbrev invariant-loop : tie.invariant-loop
+abbrev invariant-loop : tie.invariant-loop-i
 invariant-loop out₀ at refusal bytes end₀ i₀ out end i = (i < 16) × Ahead out₀ end₀ (line_from bytes 0) out end (line_from bytes i)
 
-abbrev decreases-loop : tie.decreases-loop
+abbrev decreases-loop : tie.decreases-loop-i
 decreases-loop out₀ at refusal bytes end₀ i₀ out end i = 16 - i
 
 -- there are sixteen bytes, so the line is the refusal and the bytes
 module _ (s : tie.Start invariant-loop decreases-loop) where
   size : length s.args.t4 ≡ 16
-  size = omega (arith, s.well-formed)
+  size = omega (arith, s.well_formed)
 
   first : numbers_line s.args.refusal s.args.t4 ≡ field s.args.refusal ++ line_from s.args.t4 0
   first = line-next s.args.refusal s.args.t4 0 (omega (arith, size))
@@ -31,7 +31,7 @@ module _ (s : tie.Start invariant-loop decreases-loop) where
   both = ap length first ∙ length-append (field s.args.refusal) (line_from s.args.t4 0)
 
 -- what is left in the loop
-module _ (l : tie.At-loop invariant-loop decreases-loop) where
+module _ (l : tie.At-loop-i invariant-loop decreases-loop) where
   abbrev entry : tie.Start invariant-loop decreases-loop
   entry = l.before.before.before.before.before.before
 
@@ -39,12 +39,12 @@ module _ (l : tie.At-loop invariant-loop decreases-loop) where
   bytes = entry.args.t4
 
   abbrev i : ℕ
-  i = l.loop.i
+  i = l.loop-i.i
 
-  room : l.loop.end + length (line_from bytes i) ≤ length l.loop.out
+  room : l.loop-i.end + length (line_from bytes i) ≤ length l.loop-i.out
   room =
       let f = l.before.before.before in
-      omega (arith, entry.pre, both entry, f.put-field.ensures.next, f.put-field.kept.0, l.loop.inv.1.next, l.loop.inv.1.size)
+      omega (arith, entry.pre, both entry, f.put_field-end.ensures.next, f.put_field-end.kept.0, l.loop-i.inv.1.next, l.loop-i.inv.1.size)
 
   more : i + 1 < 16 → line_from bytes i ≡ field (get_or bytes i 0) ++ line_from bytes (i + 1)
   more h = line-next (get_or bytes i 0) bytes (i + 1) (omega (arith, size entry))
@@ -52,45 +52,45 @@ module _ (l : tie.At-loop invariant-loop decreases-loop) where
   last : 16 ≤ i + 1 → line_from bytes i ≡ number_line (get_or bytes i 0)
   last h = line-last bytes i (omega (arith, size entry))
 
-put-field-requires : tie.Need-put-field-requires invariant-loop decreases-loop
+put-field-requires : tie.Need-put_field-end-requires invariant-loop decreases-loop
 put-field-requires c κs = let s = c.before.before in omega (arith, s.requires, both s)
 
-loop-holds : tie.Need-loop-init invariant-loop decreases-loop
+loop-holds : tie.Need-loop-i-init invariant-loop decreases-loop
 loop-holds c = (omega arith, ahead-start _ _ _)
 
-add-loop : tie.Need-overflow-add-loop invariant-loop decreases-loop
+add-loop : tie.Need-overflow_add-i invariant-loop decreases-loop
 add-loop c = search rules
 
-array-read-put-byte : tie.Need-array-read-put-byte invariant-loop decreases-loop
+array-read-put-byte : tie.Need-bounds-bytes-i invariant-loop decreases-loop
 array-read-put-byte c = search rules
 
-put-byte-requires : tie.Need-put-byte-requires invariant-loop decreases-loop
+put-byte-requires : tie.Need-put_byte-end-requires invariant-loop decreases-loop
 put-byte-requires c κs =
     let l = c.before.before in
-    omega (arith, room l, ap length (more l c.before.loop-test.true), length-append (field (get_or (bytes l) (i l) 0)) (line_from (bytes l) (i l + 1)))
+    omega (arith, room l, ap length (more l c.loop-i-test.true), length-append (field (get_or (bytes l) (i l) 0)) (line_from (bytes l) (i l + 1)))
 
-add-i : tie.Need-overflow-add-i invariant-loop decreases-loop
+add-i : tie.Need-overflow_add-i-in-loop-i invariant-loop decreases-loop
 add-i c = search rules
 
-loop-less : tie.Need-loop-smaller invariant-loop decreases-loop
+loop-less : tie.Need-loop-i-smaller invariant-loop decreases-loop
 loop-less c = search rules
 
-loop-again : tie.Need-loop-preserved invariant-loop decreases-loop
+loop-again : tie.Need-loop-i-preserved invariant-loop decreases-loop
 loop-again c =
     let q = c.before.before in
     let t = q.before.before in
     let l = t.before in
-    (omega (arith, t.loop-test.true), ahead-next q.put_byte.ensures q.put_byte.auto.0 (ahead_as (more l t.loop-test.true) l.loop.invariant.1))
+    (omega (arith, t.loop-i-test.true), ahead-next q.put_byte-end.ensures q.put_byte-end.auto.0 (ahead_as (more l t.loop-i-test.true) l.loop-i.invariant.1))
 
-array-read-put-last-byte : tie.Need-array-read-put-last-byte invariant-loop decreases-loop
+array-read-put-last-byte : tie.Need-bounds-bytes-i-2 invariant-loop decreases-loop
 array-read-put-last-byte c = search rules
 
-put-last-byte-requires : tie.Need-put-last-byte-requires invariant-loop decreases-loop
+put-last-byte-requires : tie.Need-put_last_byte-requires invariant-loop decreases-loop
 put-last-byte-requires c κs =
     let l = c.before.before in
-    omega (arith, room l, ap length (last l c.before.loop-test.false))
+    omega (arith, room l, ap length (last l c.loop-i-test.false))
 
-same_length : tie.Need-same-length invariant-loop decreases-loop
+same_length : tie.Need-shape_of-out invariant-loop decreases-loop
 same_length c = search rules
 
 returns : tie.Need-returns invariant-loop decreases-loop
@@ -100,14 +100,14 @@ returns c =
     let l = t.before in
     let f = l.before.before.before in
     let s = entry l in
-    let ended = last l t.loop-test.false in
-    let place : q.put-last-byte.result ≤ length s.args.out.now =
-    omega (arith, q.put-last-byte.ensures.next, ap length ended, room l, l.loop.invariant.1.size, f.put-field.auto.0) in
-    let later = l.loop.invariant.1.whole _ _ (omega (arith, place, f.put-field.auto.0)) (put_as (sym ended) q.put-last-byte.ensures) in
-    put_as (sym (first s)) (put_then f.put-field.ensures later place)
+    let ended = last l t.loop-i-test.false in
+    let place : q.put_last_byte.result ≤ length s.args.out.now =
+    omega (arith, q.put_last_byte.ensures.next, ap length ended, room l, l.loop-i.invariant.1.size, f.put_field-end.auto.0) in
+    let later = l.loop-i.invariant.1.whole _ _ (omega (arith, place, f.put_field-end.auto.0)) (put_as (sym ended) q.put_last_byte.ensures) in
+    put_as (sym (first s)) (put_then f.put_field-end.ensures later place)
 
-pub put-line-spec : {M : Type 1} → statement M
-put-line-spec =
+pub put_line_spec : {M : Type 1} → statement M
+put_line_spec =
     tie.close
     (tie.spec
     invariant-loop

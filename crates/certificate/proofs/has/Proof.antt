@@ -25,19 +25,19 @@ by-room a b e =
     (ap₂ (λ (x m : ℕ). eqb x a.args.command && leb a.args.n m) (get_or-drop at bs 0 0 ∙ ap (λ (k : ℕ). get_or bs k 0) (add-zero at)) (length-drop at bs)
     ∙ ap (λ t. eqb (get_or bs at 0) a.args.command && t) e)
 
-sub-if1 : tie.Need-overflow-sub-if1
+sub-if1 : tie.Need-overflow_sub-s
 sub-if1 c = search rules
 
-returns : tie.Need-returns
+returns : tie.Need-returns-then-s-at
 returns c =
-    let a = c.before.args in
-    sym (and-false (eqb (get_or a.s.now a.at 0) a.command)) ∙ by-room c.before false (lt-leb _ _ c.if1.true)
+    let a = c.args in
+    sym (and-false (eqb (get_or a.s.now a.at 0) a.command)) ∙ by-room c.before false (lt-leb _ _ c.if-s-at.true)
 
-shared-slice-read-result : tie.Need-shared-slice-read-result
+shared-slice-read-result : tie.Need-bounds-s-at
 shared-slice-read-result c = search rules
 
-returns-2 : tie.Need-returns-2
-returns-2 c = sym (and-true _) ∙ by-room c.before.before true (le-leb _ _ c.before.if1.false)
+returns-2 : tie.Need-returns
+returns-2 c = sym (and-true _) ∙ by-room c.before.before true (le-leb _ _ c.if-s-at.false)
 
-pub has-spec : {M : Type 1} → statement M
-has-spec = tie.close (tie.spec sub-if1 returns shared-slice-read-result returns-2)
+pub has_spec : {M : Type 1} → statement M
+has_spec = tie.close (tie.spec sub-if1 returns shared-slice-read-result returns-2)

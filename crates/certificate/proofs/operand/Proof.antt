@@ -9,28 +9,28 @@ use Rattle.model.specs.Bytes.{number, part}
 use Rattle.certificate.proofs.operand.Statement.{statement}
 use Rattle.certificate.proofs.operand.Tie as tie
 
-read-u16-requires : tie.Need-read-u16-requires
+read-u16-requires : tie.Need-read_u16-requires
 read-u16-requires c κs = search rules
 
-cast-result : tie.Need-overflow-cast-result
+cast-result : tie.Need-overflow_cast-result
 cast-result c = search rules
 
-returns : tie.Need-returns
+returns : tie.Need-returns-then-width-eq2
 returns c =
-    let a = c.before.before.before.args in
-    c.read-u16.ensures ∙ ap (λ (k : ℕ). number (part a.s.now a.at k)) (sym c.before.if1.true)
+    let a = c.args in
+    c.read_u16.ensures ∙ ap (λ (k : ℕ). number (part a.s.now a.at k)) (sym c.if-width-eq2.true)
 
 -- four bytes, where they are not two
-four : (c : tie.Else1) → c.before.before.args.width ≡ 4
-four c = ⊎_elim (λ e. absurd (c.if1.false e)) (λ e. e) c.before.before.requires.1
+four : (c : tie.Else-width-eq2) → c.args.width ≡ 4
+four c = ⊎_elim (λ e. absurd (c.if-width-eq2.false e)) (λ e. e) c.requires.1
 
-read-u32-requires : tie.Need-read-u32-requires
-read-u32-requires c κs = omega (arith, four c, c.before.before.requires.0)
+read-u32-requires : tie.Need-read_u32-requires
+read-u32-requires c κs = omega (arith, four c, c.requires.0)
 
-returns-2 : tie.Need-returns-2
+returns-2 : tie.Need-returns
 returns-2 c =
-    let a = c.before.before.before.args in
+    let a = c.args in
     c.read_u32.ensures ∙ ap (λ (k : ℕ). number (part a.s.now a.at k)) (sym (four c.before))
 
-pub operand-spec : {M : Type 1} → statement M
-operand-spec = tie.close (tie.spec read-u16-requires cast-result returns read-u32-requires returns-2)
+pub operand_spec : {M : Type 1} → statement M
+operand_spec = tie.close (tie.spec read-u16-requires cast-result returns read-u32-requires returns-2)

@@ -13,21 +13,21 @@ use Rattle.certificate.proofs.step_label.Tie as tie
 inside : (a : tie.Start) → a.args.parts.from + step_size * a.args.j + step_size ≤ length a.args.s.now
 inside a = step-inside long_reads a.args.s.now a.args.parts a.args.j a.requires.0 a.requires.1
 
-mul-result : tie.Need-overflow-mul-result
+mul-result : tie.Need-overflow_mul-result
 mul-result c = omega (arith, inside c)
 
-add-result : tie.Need-overflow-add-result
+add-result : tie.Need-overflow_add-result
 add-result c = omega (arith, inside c)
 
-add-result-2 : tie.Need-overflow-add-result-2
+add-result-2 : tie.Need-overflow_add-result-2
 add-result-2 c = omega (arith, inside c)
 
-shared-slice-read-result : tie.Need-shared-slice-read-result
+shared-slice-read-result : tie.Need-bounds-s-from
 shared-slice-read-result c = omega (arith, inside c.before)
 
 returns : tie.Need-returns
 returns c = let a = c.before in sym (ap (λ s. s.label) (step-read long_reads a.args.s.now a.args.parts a.args.j a.requires.1))
 
-pub step-label-spec : {M : Type 1} → statement M
-step-label-spec =
+pub step_label_spec : {M : Type 1} → statement M
+step_label_spec =
     tie.close (tie.spec mul-result add-result add-result-2 shared-slice-read-result returns)

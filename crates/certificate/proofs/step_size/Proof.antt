@@ -10,14 +10,14 @@ use Rattle.certificate.proofs.step_size.Tie as tie
 two : (c : tie.Start) → c.args.edition.mask_width ≤ 2
 two c = ⊎_elim (λ e. omega arith) (λ e. omega arith) c.requires
 
-mul-result : tie.Need-overflow-mul-result
+mul-result : tie.Need-overflow_mul-result
 mul-result c = omega (arith, two c.before)
 
-add-result : tie.Need-overflow-add-result
+add-result : tie.Need-overflow_add-result
 add-result c = omega (arith, two c.before)
 
 returns : tie.Need-returns
 returns c = search rules
 
-pub step-size-spec : {M : Type 1} → statement M
-step-size-spec = tie.close (tie.spec mul-result add-result returns)
+pub step_size_spec : {M : Type 1} → statement M
+step_size_spec = tie.close (tie.spec mul-result add-result returns)

@@ -20,80 +20,80 @@ use Rattle.certificate.proofs.steps.Tie as tie
 abbrev At : Edition → List ℕ → ℕ → ℕ → ℕ → Type 0
 At e s from i at = Reached (read_steps e) (step_in e s) s from (step_width e) max_steps i at
 
-abbrev invariant-loop : tie.invariant-loop
+abbrev invariant-loop : tie.invariant-loop-i
 invariant-loop s size i₀ from i cursor = (cursor.at ≤ length s) × ((e : Edition) → size ≡ step_width e → At e s from.at i cursor.at)
 
-abbrev decreases-loop : tie.decreases-loop
+abbrev decreases-loop : tie.decreases-loop-i
 decreases-loop s size i₀ from i cursor = max_steps - i
 
-loop-holds : tie.Need-loop-init invariant-loop decreases-loop
-loop-holds c = (c.before.requires, λ e z. reached-start _ _ _ _ _ _ c.before.requires)
+loop-holds : tie.Need-loop-i-init invariant-loop decreases-loop
+loop-holds c = (c.requires, λ e z. reached-start _ _ _ _ _ _ c.requires)
 
 -- the bytes, and the cursor's place
-abbrev bytes : tie.At-loop invariant-loop decreases-loop → List ℕ
-bytes h = h.before.before.args.s.now
+abbrev bytes : tie.At-loop-i invariant-loop decreases-loop → List ℕ
+bytes h = h.args.s.now
 
-abbrev place : tie.At-loop invariant-loop decreases-loop → ℕ
-place h = h.loop.cursor.at
+abbrev place : tie.At-loop-i invariant-loop decreases-loop → ℕ
+place h = h.loop-i.cursor.at
 
-has-at-requires : tie.Need-has-at-requires invariant-loop decreases-loop
-has-at-requires c κs = (c.before.loop.invariant.0, omega arith)
+has-at-requires : tie.Need-has_at-requires invariant-loop decreases-loop
+has-at-requires c κs = (c.loop-i.invariant.0, omega arith)
 
-returns : tie.Need-returns invariant-loop decreases-loop
+returns : tie.Need-returns-then-not-has_at invariant-loop decreases-loop
 returns c e z =
     let l = c.before.before.before in
-    let i = l.loop.invariant.1 e z in
+    let i = l.loop-i.invariant.1 e z in
     record {
       inside = (i.place, i.inside);
-      read = reached-end _ _ _ _ _ _ _ _ i (step-none e (bytes l) (place l) (sym c.before.has_at.ensures ∙ not-true _ c.if1.true) _);
+      read = reached-end _ _ _ _ _ _ _ _ i (step-none e (bytes l) (place l) (sym c.has_at.ensures ∙ not-true _ c.if-not-has_at.true) _);
     }
 
-sub-if2 : tie.Need-overflow-sub-if2 invariant-loop decreases-loop
-sub-if2 c = c.before.before.before.before.loop.invariant.0
+sub-if2 : tie.Need-overflow_sub-s invariant-loop decreases-loop
+sub-if2 c = c.loop-i.invariant.0
 
 -- a step stands here
-stands : (c : tie.Else1 invariant-loop decreases-loop) → has (drop (place c.before.before.before) (bytes c.before.before.before)) step_command 1 ≡ true
-stands c = sym c.before.has_at.ensures ∙ not-false _ c.if1.false
+stands : (c : tie.Else-not-has_at invariant-loop decreases-loop) → has (drop (place c.before.before.before) (bytes c.before.before.before)) step_command 1 ≡ true
+stands c = sym c.has_at.ensures ∙ not-false _ c.if-not-has_at.false
 
-returns-2 : tie.Need-returns-2 invariant-loop decreases-loop
+returns-2 : tie.Need-returns-then-s-cursor invariant-loop decreases-loop
 returns-2 c e z =
     let s = c.before.before in
     let t = s.before.before in
     let l = t.before in
-    let short : length (bytes l) - place l < step_width e = omega (arith, c.if2.true, z) in
-    record { inside = tt; read = reached-fault _ _ _ _ _ _ _ _ (l.loop.invariant.1 e z) t.loop-test.true (step-fault e (bytes l) (place l) (stands s) short) }
+    let short : length (bytes l) - place l < step_width e = omega (arith, c.if-s-cursor.true, z) in
+    record { inside = tt; read = reached-fault _ _ _ _ _ _ _ _ (l.loop-i.invariant.1 e z) t.loop-i-test.true (step-fault e (bytes l) (place l) (stands s) short) }
 
-past-requires : tie.Need-past-requires invariant-loop decreases-loop
-past-requires c = omega (arith, c.if2.false)
+past-requires : tie.Need-past-cursor-requires invariant-loop decreases-loop
+past-requires c = omega (arith, c.if-s-cursor.false)
 
-add-i : tie.Need-overflow-add-i invariant-loop decreases-loop
+add-i : tie.Need-overflow_add-i invariant-loop decreases-loop
 add-i c = search rules
 
-loop-less : tie.Need-loop-smaller invariant-loop decreases-loop
+loop-less : tie.Need-loop-i-smaller invariant-loop decreases-loop
 loop-less c = search rules
 
-loop-again : tie.Need-loop-preserved invariant-loop decreases-loop
+loop-again : tie.Need-loop-i-preserved invariant-loop decreases-loop
 loop-again c =
     let s = c.before.before.before in
     let t = s.before.before in
     let l = t.before in
-    let fits = c.before.if2.false in (
-      omega (arith, c.past.ensures, l.loop.invariant.0, fits),
+    let fits = c.if-s-cursor.false in (
+      omega (arith, c.past-cursor.ensures, l.loop-i.invariant.0, fits),
       λ e z.
-          let i = l.loop.invariant.1 e z in
+          let i = l.loop-i.invariant.1 e z in
           let room : step_width e ≤ length (bytes l) - place l = omega (arith, fits, z) in
-          subst (At e (bytes l) l.before.before.args.from.at _) (sym (c.past.ensures ∙ ap (λ (k : ℕ). place l + k) z))
-          (reached-next _ _ _ _ _ _ _ _ i t.loop-test.true (omega (arith, i.inside, room)) (step-next e (bytes l) (place l) (stands s) room)),
+          subst (At e (bytes l) l.args.from.at _) (sym (c.past-cursor.ensures ∙ ap (λ (k : ℕ). place l + k) z))
+          (reached-next _ _ _ _ _ _ _ _ i t.loop-i-test.true (omega (arith, i.inside, room)) (step-next e (bytes l) (place l) (stands s) room)),
     )
 
-returns-3 : tie.Need-returns-3 invariant-loop decreases-loop
+returns-3 : tie.Need-returns invariant-loop decreases-loop
 unfolding read_steps
 returns-3 c e z =
-    let i = c.before.loop.invariant.1 e z in
-    record { inside = (i.place, i.inside); read = reached-all _ _ _ _ _ _ _ _ i c.loop-test.false refl }
+    let i = c.loop-i.invariant.1 e z in
+    record { inside = (i.place, i.inside); read = reached-all _ _ _ _ _ _ _ _ i c.loop-i-test.false refl }
 
-pub steps-spec : {M : Type 1} → statement M
-steps-spec =
+pub steps_spec : {M : Type 1} → statement M
+steps_spec =
     tie.close
     (tie.spec
     invariant-loop

@@ -11,55 +11,55 @@ use borrow.Author.Rules.{rules}
 use Rattle.convert.proofs.says_all.Statement.{statement}
 use Rattle.convert.proofs.says_all.Tie as tie
 
-abbrev invariant-loop : tie.invariant-loop
+abbrev invariant-loop : tie.invariant-loop-i
 invariant-loop edition tasks count i₀ i = (i ≤ count) × Left (edition_of edition) tasks count i
 
-abbrev decreases-loop : tie.decreases-loop
+abbrev decreases-loop : tie.decreases-loop-i
 decreases-loop edition tasks count i₀ i = count - i
 
 room : (s : tie.Start invariant-loop decreases-loop) → s.args.plan.count ≤ length s.args.plan.tasks
 room s = omega (arith, s.requires.fits, s.requires.room)
 
-loop-holds : tie.Need-loop-init invariant-loop decreases-loop
+loop-holds : tie.Need-loop-i-init invariant-loop decreases-loop
 loop-holds c = (omega arith, refl)
 
-mul-says : tie.Need-overflow-mul-says invariant-loop decreases-loop
+mul-says : tie.Need-offset_bounds-tasks-i invariant-loop decreases-loop
 mul-says c = omega (arith, room c.before.before.before)
 
-array-copy-out-says : tie.Need-array-copy-out-says invariant-loop decreases-loop
+array-copy-out-says : tie.Need-bounds-tasks-i invariant-loop decreases-loop
 array-copy-out-says c = omega (arith, room c.before.before.before)
 
 says-requires : tie.Need-says-requires invariant-loop decreases-loop
 says-requires c κs = search rules
 
-returns : tie.Need-returns invariant-loop decreases-loop
+returns : tie.Need-returns-then-not-says invariant-loop decreases-loop
 returns c =
     let t = c.before in
     let l = t.before.before.before in
     let s = l.before.before in
-    sym (next-task (edition_of s.args.edition) _ _ (room s) _ l.loop.invariant.1 t.before.before.loop-test.true (sym (not-true _ c.if1.true) ∙ t.says.ensures))
+    sym (next-task (edition_of s.args.edition) _ _ (room s) _ l.loop-i.invariant.1 t.loop-i-test.true (sym c.if-not-says.true ∙ t.says.ensures))
 
-add-i : tie.Need-overflow-add-i invariant-loop decreases-loop
+add-i : tie.Need-overflow_add-i invariant-loop decreases-loop
 add-i c = omega arith
 
-loop-less : tie.Need-loop-smaller invariant-loop decreases-loop
+loop-less : tie.Need-loop-i-smaller invariant-loop decreases-loop
 loop-less c = omega arith
 
-loop-again : tie.Need-loop-preserved invariant-loop decreases-loop
+loop-again : tie.Need-loop-i-preserved invariant-loop decreases-loop
 loop-again c =
     let t = c.before in
     let l = t.before.before.before in
     let s = l.before.before in
-    (omega arith, next-task (edition_of s.args.edition) _ _ (room s) _ l.loop.invariant.1 t.before.before.loop-test.true (sym (not-false _ c.if1.false) ∙ t.says.ensures))
+    (omega arith, next-task (edition_of s.args.edition) _ _ (room s) _ l.loop-i.invariant.1 t.loop-i-test.true (sym c.if-not-says.false ∙ t.says.ensures))
 
-returns-2 : tie.Need-returns-2 invariant-loop decreases-loop
+returns-2 : tie.Need-returns invariant-loop decreases-loop
 returns-2 c =
     let l = c.before in
     let s = l.before.before in
-    no_task-left (edition_of s.args.edition) _ _ (room s) _ l.loop.invariant.1 c.loop-test.false
+    no_task-left (edition_of s.args.edition) _ _ (room s) _ l.loop-i.invariant.1 c.loop-i-test.false
 
-pub says-all-spec : {M : Type 1} → statement M
-says-all-spec =
+pub says_all_spec : {M : Type 1} → statement M
+says_all_spec =
     tie.close
     (tie.spec
     invariant-loop

@@ -12,7 +12,7 @@ use Rattle.distances.proofs.Admitted.{leads-of, label-none, label-offers, label-
 use Rattle.distances.proofs.relax_label.Statement.{statement}
 use Rattle.distances.proofs.relax_label.Tie as tie
 
-next-state-requires : tie.Need-next-state-requires
+next-state-requires : tie.Need-next_state-to-requires
 next-state-requires c κs =
     let s = c.before.before in
     let a = s.args in
@@ -20,58 +20,58 @@ next-state-requires c κs =
     numbered-low g.plan (tasks_in a.rules) a.m.now a.prices.n g.sought.priced.holds g.sought.priced.planned.sound a.source.number a.source.node s.requires.2
 
 -- where the label leads
-leads : (c : tie.After-next-state) (P : Plan) →
-    let a = c.before.before.before.args in
-    Sought P a.rules a.next.now a.m.now a.prices → Leads P a.rules a.next.now a.m.now a.prices.n a.source.number a.source.node a.source.label c.next-state.result
-leads c P t = leads-of t c.before.before.before.requires.2 c.next-state.ensures
+leads : (c : tie.After-next_state-to) (P : Plan) →
+    let a = c.args in
+    Sought P a.rules a.next.now a.m.now a.prices → Leads P a.rules a.next.now a.m.now a.prices.n a.source.number a.source.node a.source.label c.next_state-to.result
+leads c P t = leads-of t c.requires.2 c.next_state-to.ensures
 
-returns : tie.Need-returns
-returns c = (λ P t. label-none t (leads c.before P t) c.if1.true, only_refl)
+returns : tie.Need-returns-then-to-eq0
+returns c = (λ P t. label-none t (leads c.before P t) c.if-to-eq0.true, only_refl)
 
-reach-requires : tie.Need-reach-requires
+reach-requires : tie.Need-reach-noted-requires
 reach-requires c κs =
     let s = c.before.before.before.before.before in
     let a = s.args in
     let g = s.requires.1 in
     (s.requires.0, numbered-cells g.plan (tasks_in a.rules) a.m.now a.prices.n g.sought.priced.holds a.source.number a.source.node s.requires.2, numbered-taken g.plan (tasks_in a.rules) a.m.now a.prices.n g.sought.priced.holds g.sought.priced.planned.sound a.source.number a.source.node s.requires.2, s.requires.4)
 
-sub-t16 : tie.Need-overflow-sub-t16
+sub-t16 : tie.Need-overflow_sub-out
 sub-t16 c = search rules
 
-cast-t17 : tie.Need-overflow-cast-t17
+cast-t17 : tie.Need-overflow_cast-out
 cast-t17 c = search rules
 
 -- what is noted
-expanded : (c : tie.After-reach) (P : Plan) →
-    let a = c.before.before.before.before.before.before.args in
+expanded : (c : tie.After-reach-noted) (P : Plan) →
+    let a = c.args in
     Sought P a.rules a.next.now a.m.now a.prices →
-    Expanded P a.rules a.next.now a.m.now a.prices.n a.source.number a.source.node a.source.label c.before.before.before.next-state.result a.notes.now c.reach.new.1.1.1.1.0 c.reach.result
+    Expanded P a.rules a.next.now a.m.now a.prices.n a.source.number a.source.node a.source.label c.next_state-to.result a.notes.now c.reach-noted.new.notes c.reach-noted.result
 expanded c P t =
     let s = c.before.before.before.before.before.before in
     let a = s.args in
     let low = numbered-taken P (tasks_in a.rules) a.m.now a.prices.n t.priced.holds t.priced.planned.sound a.source.number a.source.node s.requires.2 in
-    record { leads = leads c.before.before.before P t; admitted = omega (arith, c.before.before.if1.false); ruled = s.requires.0; low = low; wanted = pattern_count; reaches = c.reach.ensures }
+    record { leads = leads c.before.before.before P t; admitted = omega (arith, c.if-to-eq0.false); ruled = s.requires.0; low = low; wanted = pattern_count; reaches = c.reach-noted.ensures }
 
-relax-outcomes-requires : tie.Need-relax-outcomes-requires
+relax-outcomes-requires : tie.Need-relax_outcomes-requires
 relax-outcomes-requires c κs =
     let s = c.before.before.before.before.before.before.before.before.before.before.before in
     let g = s.requires.1 in
     record { plan = g.plan; offers = label-offers g.sought (expanded c.before.before.before.before.before g.plan g.sought) s.requires.3 }
 
-same_length : tie.Need-same-length
+same_length : tie.Need-shape_of-m
 same_length c = search rules
 
-returns-2 : tie.Need-returns-2
+returns-2 : tie.Need-returns
 returns-2 c =
     let s = c.before.before.before.before.before.before.before.before.before.before.before.before.before.before in (
       λ P t.
           let e = expanded c.before.before.before.before.before.before.before.before P t in
-          label-done t e (c.before.before.relax-outcomes.ensures P (label-offers t e s.requires.3)),
-      c.before.before.before.before.before.before.before.before.reach.ensures.only,
+          label-done t e (c.relax_outcomes.ensures P (label-offers t e s.requires.3)),
+      c.reach-noted.ensures.only,
     )
 
-pub relax-label-spec : {M : Type 1} → statement M
-relax-label-spec =
+pub relax_label_spec : {M : Type 1} → statement M
+relax_label_spec =
     tie.close
     (tie.spec
     next-state-requires

@@ -21,28 +21,28 @@ use Rattle.distances.proofs.Targets.{distance_small, offer-of}
 use Rattle.distances.proofs.relax_outcome.Statement.{statement}
 use Rattle.distances.proofs.relax_outcome.Tie as tie
 
-noted-pattern-requires : tie.Need-noted-pattern-requires
+noted-pattern-requires : tie.Need-noted_pattern-taken-requires
 noted-pattern-requires c κs = let s = c.before in (s.requires.0.offers.readable, s.requires.1)
 
-cast-best-score : tie.Need-overflow-cast-best-score
+cast-best-score : tie.Need-overflow_cast-taken
 cast-best-score c = search rules
 
-best-score-requires : tie.Need-best-score-requires
-best-score-requires c κs = let o = c.before.before.requires.0.offers in (o.readable.room, omega (arith, c.noted-pattern.ensures.1))
+best-score-requires : tie.Need-best_score-gain-requires
+best-score-requires c κs = let o = c.requires.0.offers in (o.readable.room, omega (arith, c.noted_pattern-taken.ensures.1))
 
 -- the score that is read
-score : (c : tie.After-best-score) →
-    let a = c.before.before.before.args in
-    c.best-score.result ≡ score_in a.notes.now a.out.count (pattern_in a.notes.now a.k)
+score : (c : tie.After-best_score-gain) →
+    let a = c.args in
+    c.best_score-gain.result ≡ score_in a.notes.now a.out.count (pattern_in a.notes.now a.k)
 score c =
-    let a = c.before.before.before.args in
-    c.best-score.ensures a.out.count ∙ ap (score_in a.notes.now a.out.count) c.before.noted-pattern.ensures.0
+    let a = c.args in
+    c.best_score-gain.ensures a.out.count ∙ ap (score_in a.notes.now a.out.count) c.noted_pattern-taken.ensures.0
 
-sub-gain : tie.Need-overflow-sub-gain
+sub-gain : tie.Need-overflow_sub-gain
 sub-gain c = let s = c.before.before.before in omega (arith, score c, s.requires.0.offers.noted s.args.k s.requires.1)
 
 times-requires : tie.Need-times-requires
-times-requires c κs = let o = c.before.before.before.requires.0.offers in omega (arith, o.fits_p)
+times-requires c κs = let o = c.requires.0.offers in omega (arith, o.fits_p)
 
 -- the distance, before it is stored
 distance : (c : tie.After-times) →
@@ -56,7 +56,7 @@ distance c =
     ap₂ (λ y z. y -ℤ z) (to_z-of_z {w = w64} s.ranges.high)
     (to_z-of_z {w = w64} (record { sfits = c.times.type-inv }) ∙ c.times.ensures ∙ ap (λ (x : ℕ). pos (a.prices.p * (x - 1))) (score c.before))
 
-sub-z : tie.Need-overflow-sub-z
+sub-z : tie.Need-overflow_sub-z
 sub-z c =
     let s = c.before.before.before.before in
     let a = s.args in
@@ -64,33 +64,33 @@ sub-z c =
     let g = gain_in a.notes.now a.out.count (pattern_in a.notes.now a.k) in
     subst (SFits w64) (sym (distance c))
     (bound_fits a.high (a.prices.p * g)
-    (charge_small a.prices.p g (omega (arith, o.fits_p)) (omega (arith, score c.before, c.before.best-score.type-inv)))
+    (charge_small a.prices.p g (omega (arith, o.fits_p)) (omega (arith, score c.before, c.best_score-gain.type-inv)))
     (subst (λ z. nat_abs z ≤ max_high) (sym s.requires.2)
-    (high_small ((state_in a.m.now).dist a.out.number) (a.prices.q * a.out.kept) (charge_small a.prices.q a.out.kept o.fits_q (omega (arith, s.well-formed)))
+    (high_small ((state_in a.m.now).dist a.out.number) (a.prices.q * a.out.kept) (charge_small a.prices.q a.out.kept o.fits_q (omega (arith, s.well_formed)))
     (distance_small s.requires.0.plan a.prices a.m.now o.search o.within o.few a.out.number o.from o.known))))
 
-row-of-requires : tie.Need-row-of-requires
+row-of-requires : tie.Need-row_of-row-requires
 row-of-requires c κs = search rules
 
-find-requires : tie.Need-find-requires
+find-requires : tie.Need-find-v-requires
 find-requires c κs =
     let s = c.before.before.before.before.before.before.before.before in
     let o = s.requires.0.offers in
-    let to = with_pattern s.args.out.cells s.args.out.state c.before.before.before.before.before.before.noted-pattern.result in
-    (o.index, o.distinct, ap length c.before.before.row_of.ensures ∙ row-length to o.size)
+    let to = with_pattern s.args.out.cells s.args.out.state c.noted_pattern-taken.result in
+    (o.index, o.distinct, ap length c.row_of-row.ensures ∙ row-length to o.size)
 
 -- what is found is the number of the pattern's node
-number : (c : tie.After-find) →
-    let a = c.before.before.before.before.before.before.before.before.before.args in
-    c.find.result ≡ target_of a.prices a.m.now a.notes.now a.out a.k
+number : (c : tie.After-find-v) →
+    let a = c.args in
+    c.find-v.result ≡ target_of a.prices a.m.now a.notes.now a.out a.k
 number c =
-    let a = c.before.before.before.before.before.before.before.before.before.args in
-    c.find.ensures ∙ ap (index_in (rows_in a.m.now a.prices.n))
-    (c.before.before.before.row_of.ensures ∙ ap (λ (p : ℕ). row_of (with_pattern a.out.cells a.out.state p)) c.before.before.before.before.before.before.before.noted-pattern.ensures.0)
+    let a = c.args in
+    c.find-v.ensures ∙ ap (index_in (rows_in a.m.now a.prices.n))
+    (c.row_of-row.ensures ∙ ap (λ (p : ℕ). row_of (with_pattern a.out.cells a.out.state p)) c.noted_pattern-taken.ensures.0)
 
 -- and what is computed its distance
 at : (c : tie.After-times) →
-    let a = c.before.before.before.before.args in
+    let a = c.args in
     to_z w64 (of_z w64 (to_z w64 (of_z w64 a.high) -ℤ to_z w64 (of_z w64 c.times.result))) ≡ distance_by a.prices a.m.now a.notes.now a.out a.k
 at c =
     let s = c.before.before.before.before in
@@ -103,7 +103,7 @@ relax-requires c κs =
     let s = c.before.before.before.before.before.before.before.before.before.before in
     record { plan = s.requires.0.plan; prices = s.args.prices; offer = offer-of s.requires.0.offers s.args.k s.requires.1 (number c.before) (at c.before.before.before.before.before.before) }
 
-same_length : tie.Need-same-length
+same_length : tie.Need-shape_of-m
 same_length c = search rules
 
 returns : tie.Need-returns
@@ -112,11 +112,11 @@ returns c P o =
     let a = s.args in
     let v = number c.before.before.before.before in
     let z = at c.before.before.before.before.before.before.before.before.before in
-    subst₂ (λ (x : ℕ) y. Relaxes P a.prices a.out.number x y a.m.now c.before.before.relax.new.0 c.before.before.relax.result) v z
-    (c.before.before.relax.ensures P a.prices (offer-of o a.k s.requires.1 v z))
+    subst₂ (λ (x : ℕ) y. Relaxes P a.prices a.out.number x y a.m.now c.relax.new.m c.relax.result) v z
+    (c.relax.ensures P a.prices (offer-of o a.k s.requires.1 v z))
 
-pub relax-outcome-spec : {M : Type 1} → statement M
-relax-outcome-spec =
+pub relax_outcome_spec : {M : Type 1} → statement M
+relax_outcome_spec =
     tie.close
     (tie.spec
     noted-pattern-requires

@@ -26,65 +26,65 @@ table s = clear_in s.args.pattern (span_start_in s.args.offers.now s.args.task) 
 abbrev runs : tie.Start → List ℕ
 runs s = clear_runs s.args.pattern (span_start_in s.args.offers.now s.args.task) (span_end_in s.args.offers.now s.args.task)
 
-mul_at : tie.Need-overflow-mul-at
+mul_at : tie.Need-offset_bounds-offers-task
 mul_at c = search rules
 
-element-copy-out-at : tie.Need-element-copy-out-at
+element-copy-out-at : tie.Need-bounds-offers-task
 element-copy-out-at c = search rules
 
-add-end : tie.Need-overflow-add-end
+add-end : tie.Need-overflow_add-end
 add-end c = search rules
 
-mul-end : tie.Need-overflow-mul-end
+mul-end : tie.Need-offset_bounds-offers-task-2
 mul-end c = search rules
 
-element-copy-out-end : tie.Need-element-copy-out-end
+element-copy-out-end : tie.Need-bounds-offers-task-2
 element-copy-out-end c = search rules
 
-add-if1 : tie.Need-overflow-add-if1
+add-if1 : tie.Need-overflow_add-task
 add-if1 c = search rules
 
-mul-if1 : tie.Need-overflow-mul-if1
+mul-if1 : tie.Need-offset_bounds-offers-task-3
 mul-if1 c = search rules
 
-element-copy-out-if1 : tie.Need-element-copy-out-if1
+element-copy-out-if1 : tie.Need-bounds-offers-task-3
 element-copy-out-if1 c = search rules
 
-list-clear-requires : tie.Need-list-clear-requires
+list-clear-requires : tie.Need-list_clear-requires
 list-clear-requires c κs =
     let s = c.before.before.before.before.before in
     let f = span s in
-    (s.requires.0, f.order c.before.if1.true, f.within, omega (arith, f.within, s.requires.3))
+    (s.requires.0, f.order c.if-offers-task-eq0.true, f.within, omega (arith, f.within, s.requires.3))
 
-returns : tie.Need-returns
+returns : tie.Need-returns-then-offers-task-eq0
 returns c =
     let s = c.before.before.before.before.before.before in
     let f = span s in
     lists_wider mask_count (omega (arith, f.within))
-    (lists-same (sym (ap (λ (b : Bool). cond b (table s) (runs s)) (eq-eqb _ 0 c.before.before.if1.true))) c.list-clear.ensures)
+    (lists-same (sym (ap (λ (b : Bool). cond b (table s) (runs s)) (eq-eqb _ 0 c.if-offers-task-eq0.true))) c.list_clear.ensures)
 
-cast-list-runs : tie.Need-overflow-cast-list-runs
+cast-list-runs : tie.Need-overflow_cast-at
 cast-list-runs c =
     let s = c.before.before.before.before in
     let o = s.args.offers.now in
     let i = s.args.task in
-    omega (arith, (span s).runs c.if1.false, mul-le-mul_left (span_start_in o i) (pow_pos (span_end_in o i)))
+    omega (arith, (span s).runs c.if-offers-task-eq0.false, mul-le-mul_left (span_start_in o i) (pow_pos (span_end_in o i)))
 
-list-runs-requires : tie.Need-list-runs-requires
+list-runs-requires : tie.Need-list_runs-requires
 list-runs-requires c κs =
     let s = c.before.before.before.before.before in
     let f = span s in
-    (omega (arith, f.runs c.before.if1.false), omega (arith, f.within, s.requires.3))
+    (omega (arith, f.runs c.if-offers-task-eq0.false), omega (arith, f.within, s.requires.3))
 
-returns-2 : tie.Need-returns-2
+returns-2 : tie.Need-returns
 returns-2 c =
     let s = c.before.before.before.before.before.before in
     let f = span s in
     lists_wider mask_count f.within
-    (lists-same (sym (ap (λ (b : Bool). cond b (table s) (runs s)) (ne_eqb _ 0 c.before.before.if1.false))) c.list-runs.ensures)
+    (lists-same (sym (ap (λ (b : Bool). cond b (table s) (runs s)) (ne_eqb _ 0 c.if-offers-task-eq0.false))) c.list_runs.ensures)
 
-pub list-masks-spec : {M : Type 1} → statement M
-list-masks-spec =
+pub list_masks_spec : {M : Type 1} → statement M
+list_masks_spec =
     tie.close
     (tie.spec
     mul_at

@@ -10,29 +10,29 @@ use Rattle.graph.proofs.runs_of.Tie as tie
 use Rattle.graph.proofs.runs_of.Statement.{statement}
 
 -- the shift stays within the word
-whole : (c : tie.After-struct-known2) → 1 * 2 ^ c.before.before.args.task.work % 2 ^ 64 ≡ 2 ^ c.before.before.args.task.work
-whole c = let t = c.before.before.requires in one-moved 64 c.before.before.args.task.work (omega (arith, t.within, t.window))
+whole : (c : tie.After-struct_known-2-1) → 1 * 2 ^ c.args.task.work % 2 ^ 64 ≡ 2 ^ c.args.task.work
+whole c = let t = c.requires in one-moved 64 c.args.task.work (omega (arith, t.within, t.window))
 
-cast-work : tie.Need-overflow-cast-work
+cast-work : tie.Need-overflow_cast-work
 cast-work c = search rules
 
-cast-window : tie.Need-overflow-cast-window
+cast-window : tie.Need-overflow_cast-window
 cast-window c = search rules
 
-shl-at : tie.Need-overflow-shl-at
-shl-at c = let t = c.before.before.requires in omega (arith, t.within, t.window)
+shl-at : tie.Need-overflow_shl-at
+shl-at c = let t = c.requires in omega (arith, t.within, t.window)
 
-sub_at : tie.Need-overflow-sub-at
-sub_at c = omega (arith, whole c, pow_pos c.before.before.args.task.work)
+sub_at : tie.Need-overflow_sub-at
+sub_at c = omega (arith, whole c, pow_pos c.args.task.work)
 
-sub-end : tie.Need-overflow-sub-end
-sub-end c = c.before.before.requires.within
+sub-end : tie.Need-overflow_sub-end
+sub-end c = c.requires.within
 
-add-end : tie.Need-overflow-add-end
+add-end : tie.Need-overflow_add-end
 add-end c = search rules
 
 returns : tie.Need-returns
 returns c = (ap (λ (n : ℕ). n - 1) (whole c), add-one _)
 
-pub runs-of-spec : {M : Type 1} → statement M
-runs-of-spec = tie.close (tie.spec cast-work cast-window shl-at sub_at sub-end add-end returns)
+pub runs_of_spec : {M : Type 1} → statement M
+runs_of_spec = tie.close (tie.spec cast-work cast-window shl-at sub_at sub-end add-end returns)

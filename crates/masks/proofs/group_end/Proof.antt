@@ -36,42 +36,42 @@ counted c D h k =
     ∙ get_or-table (count c) (suc max_window) D 0 (omega arith)
     ∙ count-is c D k
 
-mul-row : tie.Need-overflow-mul-row
+mul-row : tie.Need-offset_bounds-c
 mul-row c = search rules
 
-array-copy-out-row : tie.Need-array-copy-out-row
+array-copy-out-row : tie.Need-bounds-c-c
 array-copy-out-row c = search rules
 
-group-start-requires : tie.Need-group-start-requires
+group-start-requires : tie.Need-group_start-requires
 group-start-requires c κs = search rules
 
-mul_wide : tie.Need-overflow-mul-wide
+mul_wide : tie.Need-offset_bounds-row-window
 mul_wide c = search rules
 
-array-read-wide : tie.Need-array-read-wide
+array-read-wide : tie.Need-bounds-row-window
 array-read-wide c = search rules
 
 wide-requires : tie.Need-wide-requires
 wide-requires c κs = search rules
 
 -- the constant's entry is the count
-entry : (c : tie.After-wide) → c.wide.result ≡ length (group_below c.before.before.before.args.window c.before.before.before.args.c)
+entry : (c : tie.After-wide) → c.wide.result ≡ length (group_below c.args.window c.args.c)
 unfolding row count
 entry c =
     let s = c.before.before.before in
     c.wide.ensures ∙ counted s.args.c s.args.window s.requires.0 s.requires.1
 
-add-result : tie.Need-overflow-add-result
+add-result : tie.Need-overflow_add-result
 add-result c =
     let s = c.before.before.before in
     let i = s.args.c in
-    omega (arith, entry c, c.before.group-start.ensures, group-below-le i s.requires.0 s.args.window, group_start-le i s.requires.0)
+    omega (arith, entry c, c.group_start.ensures, group-below-le i s.requires.0 s.args.window, group_start-le i s.requires.0)
 
 returns : tie.Need-returns
-returns c = ap₂ (λ (a b : ℕ). a + b) c.before.group-start.ensures (entry c)
+returns c = ap₂ (λ (a b : ℕ). a + b) c.group_start.ensures (entry c)
 
-pub group-end-spec : {M : Type 1} → statement M
-group-end-spec =
+pub group_end_spec : {M : Type 1} → statement M
+group_end_spec =
     tie.close
     (tie.spec
     mul-row

@@ -13,41 +13,41 @@ by_tests : (a : tie.Start) {e u f s g p : Bool} → a.args.ended ≡ e → a.arg
     first_fault e u f s g p ≡ first_fault a.args.ended a.args.unknown a.args.follows a.args.short a.args.ranged a.args.rises
 by_tests a e u f s g p = sym (λ i. first_fault (e i) (u i) (f i) (s i) (g i) (p i))
 
-returns : tie.Need-returns
+returns : tie.Need-returns-then-ended
 unfolding first_fault
 returns c =
-    by_tests c.before c.if1.true refl refl refl refl refl
+    by_tests c.before c.if-ended.true refl refl refl refl refl
 
-returns-2 : tie.Need-returns-2
+returns-2 : tie.Need-returns-then-unknown
 unfolding first_fault
 returns-2 c =
-    by_tests c.before.before c.before.if1.false c.if2.true refl refl refl refl
+    by_tests c.before.before c.if-ended.false c.if-unknown.true refl refl refl refl
 
-returns-3 : tie.Need-returns-3
+returns-3 : tie.Need-returns-then-not-follows
 unfolding first_fault
 returns-3 c =
-    by_tests c.before.before.before c.before.before.if1.false c.before.if2.false (not-true _ c.if3.true) refl refl refl
+    by_tests c.before.before.before c.if-ended.false c.if-unknown.false c.if-not-follows.true refl refl refl
 
-returns-4 : tie.Need-returns-4
+returns-4 : tie.Need-returns-then-short
 unfolding first_fault
 returns-4 c =
-    by_tests c.before.before.before.before c.before.before.before.if1.false c.before.before.if2.false (not-false _ c.before.if3.false) c.if4.true refl refl
+    by_tests c.before.before.before.before c.if-ended.false c.if-unknown.false c.if-not-follows.false c.if-short.true refl refl
 
-returns-5 : tie.Need-returns-5
+returns-5 : tie.Need-returns-then-not-ranged
 unfolding first_fault
 returns-5 c =
-    by_tests c.before.before.before.before.before c.before.before.before.before.if1.false c.before.before.before.if2.false (not-false _ c.before.before.if3.false) c.before.if4.false (not-true _ c.if5.true) refl
+    by_tests c.before.before.before.before.before c.if-ended.false c.if-unknown.false c.if-not-follows.false c.if-short.false c.if-not-ranged.true refl
 
-returns-6 : tie.Need-returns-6
+returns-6 : tie.Need-returns-then-not-rises
 unfolding first_fault
 returns-6 c =
-    by_tests c.before.before.before.before.before.before c.before.before.before.before.before.if1.false c.before.before.before.before.if2.false (not-false _ c.before.before.before.if3.false) c.before.before.if4.false (not-false _ c.before.if5.false) (not-true _ c.if6.true)
+    by_tests c.before.before.before.before.before.before c.if-ended.false c.if-unknown.false c.if-not-follows.false c.if-short.false c.if-not-ranged.false c.if-not-rises.true
 
-returns-7 : tie.Need-returns-7
+returns-7 : tie.Need-returns
 unfolding first_fault
 returns-7 c =
-    by_tests c.before.before.before.before.before.before c.before.before.before.before.before.if1.false c.before.before.before.before.if2.false (not-false _ c.before.before.before.if3.false) c.before.before.if4.false (not-false _ c.before.if5.false) (not-false _ c.if6.false)
+    by_tests c.before.before.before.before.before.before c.if-ended.false c.if-unknown.false c.if-not-follows.false c.if-short.false c.if-not-ranged.false c.if-not-rises.false
 
-pub first-fault-spec : {M : Type 1} → statement M
-first-fault-spec =
+pub first_fault_spec : {M : Type 1} → statement M
+first_fault_spec =
     tie.close (tie.spec returns returns-2 returns-3 returns-4 returns-5 returns-6 returns-7)

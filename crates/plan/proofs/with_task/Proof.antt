@@ -24,13 +24,13 @@ task-added ts n t h =
 room : (c : tie.Start) → c.args.r.count < length c.args.r.tasks
 room c = omega (arith, c.requires.room refl, c.requires.within.room)
 
-mul-t8 : tie.Need-overflow-mul-t8
+mul-t8 : tie.Need-offset_bounds-n-at
 mul-t8 c = search rules
 
-element-set-from-n : tie.Need-element-set-from-n
+element-set-from-n : tie.Need-bounds-n-at
 element-set-from-n c = c.requires.room refl
 
-add-n : tie.Need-overflow-add-n
+add-n : tie.Need-overflow_add-n
 add-n c = search rules
 
 returns : tie.Need-returns
@@ -53,5 +53,5 @@ returns c = record {
   };
 }
 
-pub with-task-spec : {M : Type 1} → statement M
-with-task-spec = tie.close (tie.spec mul-t8 element-set-from-n add-n returns)
+pub with_task_spec : {M : Type 1} → statement M
+with_task_spec = tie.close (tie.spec mul-t8 element-set-from-n add-n returns)

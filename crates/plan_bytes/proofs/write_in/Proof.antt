@@ -39,36 +39,36 @@ room s =
       most each p.count s.requires.1.fits,
     )
 
-write-tasks-requires : tie.Need-write-tasks-requires
+write-tasks-requires : tie.Need-write_tasks-head-requires
 write-tasks-requires c κs =
     let s = c.before.before.before.before in
     (s.requires.1.fits, omega (arith, room s), s.requires.0)
 
-write-locks-requires : tie.Need-write-locks-requires
+write-locks-requires : tie.Need-write_locks-locks-requires
 write-locks-requires c κs =
     let s = c.before.before.before.before.before.before.before.before in
     (s.requires.1.fits, omega (arith, room s))
 
-write-four-requires : tie.Need-write-four-requires
+write-four-requires : tie.Need-write_four-arcs-requires
 write-four-requires c κs = omega (arith, room c.before.before.before.before.before.before.before.before.before.before.before.before)
 
-write-arcs-requires : tie.Need-write-arcs-requires
+write-arcs-requires : tie.Need-write_arcs-end-requires
 write-arcs-requires c κs = omega (arith, room c.before.before.before.before.before.before.before.before.before.before.before.before.before.before.before.before.before)
 
-add-size : tie.Need-overflow-add-size
+add-size : tie.Need-overflow_add-size
 add-size c = omega (arith, room c.before.before.before.before.before.before.before.before.before.before.before.before.before.before.before.before.before.before.before.before)
 
 -- the length is as it was
-size : (c : tie.After-write-arcs) → length c.write-arcs.new.0 ≡ length c.before.before.before.before.before.before.before.before.before.before.before.before.before.before.before.before.before.before.args.out.now
+size : (c : tie.After-write_arcs-end) → length c.write_arcs-end.new.out ≡ length c.args.out.now
 size c =
     let v = c.before.before.before.before.before in
     let k = v.before.before.before.before in
-    c.write-arcs.auto.0 ∙ v.write-four.auto.0 ∙ k.write-locks.auto.0 ∙ k.before.before.before.before.write-tasks.auto.0
+    c.write_arcs-end.auto.0 ∙ v.write_four-arcs.auto.0 ∙ k.write_locks-locks.auto.0 ∙ k.write_tasks-head.auto.0
 
-slice-write-out : tie.Need-slice-write-out
+slice-write-out : tie.Need-bounds-out-end
 slice-write-out c = omega (arith, room c.before.before.before.before.before.before.before.before.before.before.before.before.before.before.before.before.before.before.before.before, size c.before.before)
 
-same_length : tie.Need-same-length
+same_length : tie.Need-shape_of-out
 same_length c = simp length-set (size c.before.before)
 
 returns : tie.Need-returns
@@ -79,15 +79,15 @@ returns c =
     let u = k.before.before.before.before in
     let s = u.before.before.before.before.before in
     let a = s.args in
-    let head = put_then u.write-tasks.ensures.0 k.write-locks.ensures (omega (arith, room s)) in
-    let mid = put_then head v.write-four.ensures (omega (arith, room s)) in
-    let arcs = put_then mid w.write-arcs.ensures.0 (omega (arith, room s)) in
-    let end = put_byte w.write-arcs.new.0 w.write-arcs.result 0x05 (omega (arith, room s, size w)) in
+    let head = put_then u.write_tasks-head.ensures.0 k.write_locks-locks.ensures (omega (arith, room s)) in
+    let mid = put_then head v.write_four-arcs.ensures (omega (arith, room s)) in
+    let arcs = put_then mid w.write_arcs-end.ensures.0 (omega (arith, room s)) in
+    let end = put_byte w.write_arcs-end.new.out w.write_arcs-end.result 0x05 (omega (arith, room s, size w)) in
     let whole = rw (plan_pieces (edition_of a.edition) (plan_of a.plan)) at (put_then arcs end (omega (arith, room s))) in
     (whole.next ∙ zero-add _, whole.bytes)
 
-pub write-in-spec : {M : Type 1} → statement M
-write-in-spec =
+pub write_in_spec : {M : Type 1} → statement M
+write_in_spec =
     tie.close
     (tie.spec
     write-tasks-requires

@@ -17,43 +17,43 @@ use Rattle.plan_bytes.proofs.write_lock.Tie as tie
 room : (s : tie.Start) → s.args.t.locked ≡ true → s.args.at + 2 ≤ length s.args.out.now
 room s e = omega (arith, s.requires.1, ap length (lock-bytes (task_view s.args.t) (s.args.i + 1) e))
 
-returns : tie.Need-returns
+returns : tie.Need-returns-then-not-t
 returns c =
-    let a = c.before.before.args in
-    put_as (sym (lock-bytes (task_view a.t) (a.i + 1) (not-true _ c.if1.true))) (put-none _ _)
+    let a = c.args in
+    put_as (sym (lock-bytes (task_view a.t) (a.i + 1) c.if-not-t.true)) (put-none _ _)
 
-add-number : tie.Need-overflow-add-number
+add-number : tie.Need-overflow_add-number
 add-number c = search rules
 
-cast-number : tie.Need-overflow-cast-number
+cast-number : tie.Need-overflow_cast-number
 cast-number c = search rules
 
-slice-write-out : tie.Need-slice-write-out
-slice-write-out c = omega (arith, room c.before.before (not-false _ c.if1.false))
+slice-write-out : tie.Need-bounds-out-at
+slice-write-out c = omega (arith, room c.before.before c.if-not-t.false)
 
-add-after : tie.Need-overflow-add-after
+add-after : tie.Need-overflow_add-after
 add-after c = search rules
 
-slice-write-out-2 : tie.Need-slice-write-out-2
-slice-write-out-2 c = omega (arith, room c.before.before (not-false _ c.if1.false), length-set c.before.before.args.out.now c.before.before.args.at 0x09)
+slice-write-out-2 : tie.Need-bounds-out-after
+slice-write-out-2 c = omega (arith, room c.before.before c.if-not-t.false, length-set c.args.out.now c.args.at 0x09)
 
-add-result : tie.Need-overflow-add-result
+add-result : tie.Need-overflow_add-result
 add-result c = search rules
 
-same_length : tie.Need-same-length
+same_length : tie.Need-shape_of-out
 same_length c = search rules
 
-returns-2 : tie.Need-returns-2
+returns-2 : tie.Need-returns
 returns-2 c =
     let s = c.before.before in
     let a = s.args in
-    let locked = not-false _ c.if1.false in
+    let locked = not-false _ c.if-not-t.false in
     let command = put_byte a.out.now a.at 0x09 (slice-write-out c) in
     let number = put_byte (set a.out.now a.at 0x09) (a.at + 1) (a.i + 1) (slice-write-out-2 c) in
     put_as (sym (lock-bytes (task_view a.t) (a.i + 1) locked)) (put_then command number (omega (arith, room s locked)))
 
-pub write-lock-spec : {M : Type 1} → statement M
-write-lock-spec =
+pub write_lock_spec : {M : Type 1} → statement M
+write_lock_spec =
     tie.close
     (tie.spec
     returns

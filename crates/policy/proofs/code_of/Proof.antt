@@ -11,31 +11,31 @@ use native.Mathlib.Omega.{arith}
 use Rattle.policy.proofs.code_of.Statement.{statement}
 use Rattle.policy.proofs.code_of.Tie as tie
 
-low : (c : tie.After-key-of) → key_in c.before.before.args.policy c.before.before.args.k c.before.before.args.work c.before.before.args.left ≤ key_number 255 max_tasks 255
-low c = let a = c.before.before.args in key-low a.policy a.k a.work a.left (omega arith) (omega arith)
+low : (c : tie.After-key_of) → key_in c.args.policy c.args.k c.args.work c.args.left ≤ key_number 255 max_tasks 255
+low c = let a = c.args in key-low a.policy a.k a.work a.left (omega arith) (omega arith)
 
-returns : tie.Need-returns
+returns : tie.Need-returns-then-work-eq0
 unfolding code_in
-returns c = simp (eq-eqb c.before.args.work 0 c.if1.true)
+returns c = simp (eq-eqb c.args.work 0 c.if-work-eq0.true)
 
-key-of-requires : tie.Need-key-of-requires
+key-of-requires : tie.Need-key_of-requires
 key-of-requires c κs = search rules
 
-mul-result : tie.Need-overflow-mul-result
+mul-result : tie.Need-overflow_mul-result
 mul-result c = omega (arith, c.key_of.ensures, low c)
 
-cast-result : tie.Need-overflow-cast-result
+cast-result : tie.Need-overflow_cast-result
 cast-result c = search rules
 
-add-result : tie.Need-overflow-add-result
+add-result : tie.Need-overflow_add-result
 add-result c = omega (arith, c.key_of.ensures, low c)
 
-returns-2 : tie.Need-returns-2
+returns-2 : tie.Need-returns
 unfolding code_in
 returns-2 c =
-    let a = c.before.before.args in
-    rw (ne_eqb a.work 0 c.before.if1.false) (ap (λ n. n * places + a.k) c.key_of.ensures)
+    let a = c.args in
+    rw (ne_eqb a.work 0 c.if-work-eq0.false) (ap (λ n. n * places + a.k) c.key_of.ensures)
 
-pub code-of-spec : {M : Type 1} → statement M
-code-of-spec =
+pub code_of_spec : {M : Type 1} → statement M
+code_of_spec =
     tie.close (tie.spec returns key-of-requires mul-result cast-result add-result returns-2)

@@ -20,25 +20,25 @@ use Rattle.potentials.proofs.Labels.{potential_small, label-not, label_charged, 
 use Rattle.potentials.proofs.label_holds.Statement.{statement}
 use Rattle.potentials.proofs.label_holds.Tie as tie
 
-next-state-requires : tie.Need-next-state-requires
+next-state-requires : tie.Need-next_state-to-requires
 next-state-requires c κs =
     let start = c.before.before.before.before.before in
     let a = start.args in
     let g = start.requires.1 in
     numbered-low g.plan (tasks_in a.setting.rules) a.m.now a.setting.claim.n g.test.holds g.test.planned.sound a.from.number a.from.node start.requires.2
 
-returns : tie.Need-returns
+returns : tie.Need-returns-then-to-eq0
 returns c =
     let start = c.before.before.before.before.before.before.before in
     let a = start.args in
-    let read = c.before.next-state in (
+    let read = c.next_state-to in (
       λ P d t.
           label-not P d a.setting.rules a.next.now a.m.now a.s.now a.setting.claim t a.from.number a.from.node start.requires.2
-          a.from.label read.result read.ensures c.if1.true,
+          a.from.label read.result read.ensures c.if-to-eq0.true,
       only_refl,
     )
 
-reach-requires : tie.Need-reach-requires
+reach-requires : tie.Need-reach-noted-requires
 reach-requires c κs =
     let start = c.before.before.before.before.before.before.before.before in
     let a = start.args in
@@ -49,10 +49,10 @@ reach-requires c κs =
       start.requires.3,
     )
 
-cast-times : tie.Need-overflow-cast-times
+cast-times : tie.Need-overflow_cast-done
 cast-times c = search rules
 
-times-requires : tie.Need-times-requires
+times-requires : tie.Need-times-weight-requires
 times-requires c κs = search rules
 
 potential-requires : tie.Need-potential-requires
@@ -60,46 +60,46 @@ potential-requires c κs = search rules
 
 -- the policy's weight is small
 small : (c : tie.After-potential) →
-    let a = c.before.before.before.before.before.before.before.before.before.before.before.before.before.before.args in
-    a.setting.claim.q * c.before.before.before.before.before.reach.result.done.gain ≤ max_charge
+    let a = c.args in
+    a.setting.claim.q * c.reach-noted.result.done.gain ≤ max_charge
 small c =
     let start = c.before.before.before.before.before.before.before.before.before.before.before.before.before.before in
-    let gain = c.before.before.before.before.before.reach.result.done.gain in
-    let byte : gain < 2 ^ 32 = omega (arith, c.before.before.struct_known.given) in
+    let gain = c.reach-noted.result.done.gain in
+    let byte : gain < 2 ^ 32 = omega (arith, c.struct_known-1.given) in
     charge_small start.args.setting.claim.q gain start.requires.1.test.fits_q byte
 
 -- the potential with it, before it is stored
 sum : (c : tie.After-potential) (d : Certificate) →
-    let a = c.before.before.before.before.before.before.before.before.before.before.before.before.before.before.args in
+    let a = c.args in
     read_certificate a.s.now ≡ some d →
-    to_z w64 (of_z w64 c.potential.result) +ℤ to_z w64 (of_z w64 c.before.times.result)
-    ≡ potential_at d.potentials a.from.number +ℤ pos (a.setting.claim.q * c.before.before.before.before.before.reach.result.done.gain)
+    to_z w64 (of_z w64 c.potential.result) +ℤ to_z w64 (of_z w64 c.times-weight.result)
+    ≡ potential_at d.potentials a.from.number +ℤ pos (a.setting.claim.q * c.reach-noted.result.done.gain)
 sum c d e =
     ap₂ (λ y z. y +ℤ z)
     (to_z-of_z {w = w64} (record { sfits = c.potential.type-inv }) ∙ c.potential.ensures d e)
-    (to_z-of_z {w = w64} (record { sfits = c.before.times.type-inv }) ∙ c.before.times.ensures)
+    (to_z-of_z {w = w64} (record { sfits = c.times-weight.type-inv }) ∙ c.times-weight.ensures)
 
-add-high : tie.Need-overflow-add-high
+add-high : tie.Need-overflow_add-high
 add-high c =
     let start = c.before.before.before.before.before.before.before.before.before.before.before.before.before.before in
     let a = start.args in
     let g = start.requires.1 in
     subst (SFits w64) (sym (sum c g.certificate g.test.read))
-    (high_fits (potential_at g.certificate.potentials a.from.number) (a.setting.claim.q * c.before.before.before.before.before.reach.result.done.gain) (small c)
+    (high_fits (potential_at g.certificate.potentials a.from.number) (a.setting.claim.q * c.reach-noted.result.done.gain) (small c)
     (potential_small g.plan g.certificate a.setting.rules a.next.now a.m.now a.s.now a.setting.claim g.test a.from.number a.from.node start.requires.2))
 
-sub-state : tie.Need-overflow-sub-state
+sub-state : tie.Need-overflow_sub-state
 sub-state c = search rules
 
 -- and after
 high : (c : tie.After-potential) (d : Certificate) →
-    let a = c.before.before.before.before.before.before.before.before.before.before.before.before.before.before.args in
+    let a = c.args in
     read_certificate a.s.now ≡ some d →
-    to_z w64 (of_z w64 (to_z w64 (of_z w64 c.potential.result) +ℤ to_z w64 (of_z w64 c.before.times.result)))
-    ≡ potential_at d.potentials a.from.number +ℤ pos (a.setting.claim.q * c.before.before.before.before.before.reach.result.done.gain)
+    to_z w64 (of_z w64 (to_z w64 (of_z w64 c.potential.result) +ℤ to_z w64 (of_z w64 c.times-weight.result)))
+    ≡ potential_at d.potentials a.from.number +ℤ pos (a.setting.claim.q * c.reach-noted.result.done.gain)
 high c d e = to_z-of_z {w = w64} (add-high c) ∙ sum c d e
 
-outcomes-hold-requires : tie.Need-outcomes-hold-requires
+outcomes-hold-requires : tie.Need-outcomes_hold-requires
 outcomes-hold-requires c κs =
     let call = c.before.before.before.before.before.before in
     let read = call.before.before.before in
@@ -108,10 +108,10 @@ outcomes-hold-requires c κs =
     let g = start.requires.1 in
     let low = numbered-taken g.plan (tasks_in a.setting.rules) a.m.now a.setting.claim.n g.test.holds g.test.planned.sound a.from.number a.from.node start.requires.2 in
     label_charged g.plan g.certificate a.setting.rules a.next.now a.m.now a.s.now a.setting.claim g.test a.from.number a.from.node start.requires.2
-    a.from.label read.next-state.result read.next-state.ensures (omega (arith, call.before.before.if1.false)) start.requires.0 low pattern_count
-    a.notes.now call.reach.new.1.1.1.1.0 call.reach.result call.reach.ensures _ (high c.before g.certificate g.test.read) (small c.before)
+    a.from.label read.next_state-to.result read.next_state-to.ensures (omega (arith, call.if-to-eq0.false)) start.requires.0 low pattern_count
+    a.notes.now call.reach-noted.new.notes call.reach-noted.result call.reach-noted.ensures _ (high c.before g.certificate g.test.read) (small c.before)
 
-returns-2 : tie.Need-returns-2
+returns-2 : tie.Need-returns
 returns-2 c =
     let call = c.before.before.before.before.before.before.before in
     let read = call.before.before.before in
@@ -120,15 +120,15 @@ returns-2 c =
     let g = start.requires.1 in
     let low = numbered-taken g.plan (tasks_in a.setting.rules) a.m.now a.setting.claim.n g.test.holds g.test.planned.sound a.from.number a.from.node start.requires.2 in (
       λ P d t.
-          c.outcomes-hold.ensures d t.read
+          c.outcomes_hold.ensures d t.read
           ∙ label-tested P d a.setting.rules a.next.now a.m.now a.s.now a.setting.claim t a.from.number a.from.node start.requires.2
-          a.from.label read.next-state.result read.next-state.ensures (omega (arith, call.before.before.if1.false)) start.requires.0 low pattern_count
-          a.notes.now call.reach.new.1.1.1.1.0 call.reach.result call.reach.ensures _ (high c.before.before d t.read),
-      call.reach.ensures.only,
+          a.from.label read.next_state-to.result read.next_state-to.ensures (omega (arith, call.if-to-eq0.false)) start.requires.0 low pattern_count
+          a.notes.now call.reach-noted.new.notes call.reach-noted.result call.reach-noted.ensures _ (high c.before.before d t.read),
+      call.reach-noted.ensures.only,
     )
 
-pub label-holds-spec : {M : Type 1} → statement M
-label-holds-spec =
+pub label_holds_spec : {M : Type 1} → statement M
+label_holds_spec =
     tie.close
     (tie.spec
     next-state-requires

@@ -26,54 +26,54 @@ use Rattle.potentials.proofs.Nodes.{label_ok, row_ok, node-labels}
 use Rattle.potentials.proofs.node_holds.Statement.{statement}
 use Rattle.potentials.proofs.node_holds.Tie as tie
 
-abbrev invariant-loop : tie.invariant-loop
+abbrev invariant-loop : tie.invariant-loop-label
 invariant-loop setting next s u notes₀ m node labels label₀ notes label =
     (label ≤ labels) × (length notes ≡ length notes₀)
     × ((P : Plan) (d : Certificate) → Test P d setting.rules next m s setting.claim → all (label_ok P d setting.claim u (node_of (tasks_in setting.rules) node)) (up_from 0 label) ≡ true)
     × NotesFree notes₀ notes
 
-abbrev decreases-loop : tie.decreases-loop
+abbrev decreases-loop : tie.decreases-loop-label
 decreases-loop setting next s u notes₀ m node labels label₀ notes label = labels - label
 
-row-requires : tie.Need-row-requires invariant-loop decreases-loop
+row-requires : tie.Need-row-row-requires invariant-loop decreases-loop
 row-requires c κs =
     let start = c.before.before in
     let index = start.requires.1.test.holds.rows.index in
     (omega (arith, index.few, start.requires.2), index.room)
 
-node-of-requires : tie.Need-node-of-requires invariant-loop decreases-loop
+node-of-requires : tie.Need-node_of-node-requires invariant-loop decreases-loop
 node-of-requires c κs =
     let start = c.before.before.before in
     let a = start.args in
     let index = start.requires.1.test.holds.rows.index in
-    ap length c.row.ensures ∙ part_length a.m.now (row_bytes * a.u) row_bytes (omega (arith, index.few, index.room, start.requires.2))
+    ap length c.row-row.ensures ∙ part_length a.m.now (row_bytes * a.u) row_bytes (omega (arith, index.few, index.room, start.requires.2))
 
 -- the node that is read
-named : (c : tie.After-node-of invariant-loop decreases-loop) →
-    let a = c.before.before.before.before.args in
-    c.node_of.result ≡ node_in (row_at a.m.now a.u)
-named c = c.node_of.ensures ∙ ap node_in c.before.row.ensures
+named : (c : tie.After-node_of-node invariant-loop decreases-loop) →
+    let a = c.args in
+    c.node_of-node.result ≡ node_in (row_at a.m.now a.u)
+named c = c.node_of-node.ensures ∙ ap node_in c.row-row.ensures
 
-cast-labels : tie.Need-overflow-cast-labels invariant-loop decreases-loop
+cast-labels : tie.Need-overflow_cast-labels invariant-loop decreases-loop
 cast-labels c =
-    let rules = c.before.before.before.before.before.before.requires.0 in
+    let rules = c.requires.0 in
     record { fits = omega (arith, rules.size, rules.tasks.count) }
 
-shl-labels : tie.Need-overflow-shl-labels invariant-loop decreases-loop
+shl-labels : tie.Need-overflow_shl-labels invariant-loop decreases-loop
 shl-labels c =
-    let rules = c.before.before.before.before.before.before.requires.0 in
+    let rules = c.requires.0 in
     omega (arith, rules.size, rules.tasks.count)
 
-loop-holds : tie.Need-loop-init invariant-loop decreases-loop
+loop-holds : tie.Need-loop-label-init invariant-loop decreases-loop
 loop-holds c = (omega arith, refl, λ P d t. refl, only_refl)
 
-label-holds-requires : tie.Need-label-holds-requires invariant-loop decreases-loop
+label-holds-requires : tie.Need-label_holds-requires invariant-loop decreases-loop
 label-holds-requires c κs =
     let start = c.before.before.before.before.before.before.before.before.before in
-    (start.requires.0, start.requires.1, record { below = start.requires.2; row = named c.before.before.before.before.before }, omega (arith, c.before.before.loop.invariant.1, start.requires.3))
+    (start.requires.0, start.requires.1, record { below = start.requires.2; row = named c.before.before.before.before.before }, omega (arith, c.loop-label.invariant.1, start.requires.3))
 
 -- the labels are all
-labels : (c : tie.At-loop invariant-loop decreases-loop) →
+labels : (c : tie.At-loop-label invariant-loop decreases-loop) →
     let start = c.before.before.before.before.before.before.before in
     (1 * 2 ^ start.args.setting.rules.count) % 256 ≡ 2 ^ start.args.setting.rules.count
 labels c =
@@ -81,9 +81,9 @@ labels c =
     labels_shifted start.args.setting.rules.count (omega (arith, start.requires.0.size, start.requires.0.tasks.count))
 
 -- the node's edges by labels
-by-labels : (c : tie.At-loop invariant-loop decreases-loop) (P : Plan) (d : Certificate) →
-    let a = c.before.before.before.before.before.before.before.args in
-    let node = c.before.before.before.node_of.result in
+by-labels : (c : tie.At-loop-label invariant-loop decreases-loop) (P : Plan) (d : Certificate) →
+    let a = c.args in
+    let node = c.node_of-node.result in
     Test P d a.setting.rules a.next.now a.m.now a.s.now a.setting.claim →
     row_ok P d a.setting.claim a.setting.rules a.m.now a.u
     ≡ all (label_ok P d a.setting.claim a.u (node_of (tasks_in a.setting.rules) node)) (up_from 0 (2 ^ a.setting.rules.count))
@@ -92,52 +92,52 @@ by-labels c P d t =
     let a = start.args in
     let read = c.before.before.before in
     ap (λ (v : Node). all (edge_ok (nodes P) a.setting.claim.p a.setting.claim.q d.potentials a.u) (edges P (node_of (tasks_in a.setting.rules) v))) (sym (named read))
-    ∙ node-labels P d a.setting.rules a.next.now a.m.now a.s.now a.setting.claim t start.requires.0 a.u (node_of (tasks_in a.setting.rules) read.node_of.result)
+    ∙ node-labels P d a.setting.rules a.next.now a.m.now a.s.now a.setting.claim t start.requires.0 a.u (node_of (tasks_in a.setting.rules) read.node_of-node.result)
 
-returns : tie.Need-returns invariant-loop decreases-loop
+returns : tie.Need-returns-then-not-label_holds invariant-loop decreases-loop
 returns c =
     let call = c.before in
     let head = call.before.before.before in
-    let l = head.loop in
+    let l = head.loop-label in
     let start = head.before.before.before.before.before.before.before in
     let a = start.args in
-    let node = head.before.before.before.node_of.result in (
+    let node = head.node_of-node.result in (
       λ P d t.
           sym (by-labels head P d t
           ∙ all_stops (label_ok P d a.setting.claim a.u (node_of (tasks_in a.setting.rules) node)) l.label (2 ^ a.setting.rules.count) (omega (arith, labels head))
-          (sym (call.label-holds.ensures.0 P d t) ∙ not-true call.label-holds.result c.if1.true)),
-      only_trans l.invariant.3 call.label-holds.ensures.1,
+          (sym (call.label_holds.ensures.value P d t) ∙ not-true call.label_holds.result c.if-not-label_holds.true)),
+      only_trans l.invariant.3 call.label_holds.ensures.notes_free,
     )
 
-add-label : tie.Need-overflow-add-label invariant-loop decreases-loop
+add-label : tie.Need-overflow_add-label invariant-loop decreases-loop
 add-label c = search rules
 
-loop-less : tie.Need-loop-smaller invariant-loop decreases-loop
+loop-less : tie.Need-loop-label-smaller invariant-loop decreases-loop
 loop-less c = omega arith
 
-loop-again : tie.Need-loop-preserved invariant-loop decreases-loop
+loop-again : tie.Need-loop-label-preserved invariant-loop decreases-loop
 loop-again c =
     let call = c.before in
     let head = call.before.before.before in
-    let l = head.loop in
+    let l = head.loop-label in
     let start = head.before.before.before.before.before.before.before in
     let a = start.args in
-    let node = head.before.before.before.node_of.result in (
+    let node = head.node_of-node.result in (
       omega arith,
-      call.label-holds.ensures.1.long ∙ l.invariant.1,
+      call.label_holds.ensures.notes_free.long ∙ l.invariant.1,
       λ P d t.
           all-next (label_ok P d a.setting.claim a.u (node_of (tasks_in a.setting.rules) node)) l.label (l.invariant.2 P d t)
-          (sym (call.label-holds.ensures.0 P d t) ∙ not-false call.label-holds.result c.if1.false),
-      only_trans l.invariant.3 call.label-holds.ensures.1,
+          (sym (call.label_holds.ensures.value P d t) ∙ not-false call.label_holds.result c.if-not-label_holds.false),
+      only_trans l.invariant.3 call.label_holds.ensures.notes_free,
     )
 
-returns-2 : tie.Need-returns-2 invariant-loop decreases-loop
+returns-2 : tie.Need-returns invariant-loop decreases-loop
 returns-2 c =
     let head = c.before in
-    let l = head.loop in
+    let l = head.loop-label in
     let start = head.before.before.before.before.before.before.before in
     let a = start.args in
-    let node = head.before.before.before.node_of.result in
+    let node = head.node_of-node.result in
     let done : l.label ≡ 2 ^ a.setting.rules.count = omega (arith, labels head) in (
       λ P d t.
           sym (by-labels head P d t
@@ -146,8 +146,8 @@ returns-2 c =
       l.invariant.3,
     )
 
-pub node-holds-spec : {M : Type 1} → statement M
-node-holds-spec =
+pub node_holds_spec : {M : Type 1} → statement M
+node_holds_spec =
     tie.close
     (tie.spec
     invariant-loop

@@ -20,48 +20,48 @@ use Rattle.potentials.proofs.Weights.{charge_small, bound_fits}
 use Rattle.potentials.proofs.outcomes_hold.Statement.{statement}
 use Rattle.potentials.proofs.outcomes_hold.Tie as tie
 
-abbrev invariant-loop : tie.invariant-loop
+abbrev invariant-loop : tie.invariant-loop-k
 invariant-loop claim s notes m out high count cells k₀ k =
     (k ≤ count) × ((d : Certificate) → read_certificate s ≡ some d →
     all (λ j. pattern_ok claim d.potentials notes count m cells out.state (to_z w64 high) (pattern_in notes j)) (up_from 0 k) ≡ true)
 
-abbrev decreases-loop : tie.decreases-loop
+abbrev decreases-loop : tie.decreases-loop-k
 decreases-loop claim s notes m out high count cells k₀ k = count - k
 
-loop-holds : tie.Need-loop-init invariant-loop decreases-loop
+loop-holds : tie.Need-loop-k-init invariant-loop decreases-loop
 loop-holds c = (omega arith, λ d e. refl)
 
-noted-pattern-requires : tie.Need-noted-pattern-requires invariant-loop decreases-loop
-noted-pattern-requires c κs = (c.before.before.before.before.before.requires.readable, omega arith)
+noted-pattern-requires : tie.Need-noted_pattern-taken-requires invariant-loop decreases-loop
+noted-pattern-requires c κs = (c.requires.readable, omega arith)
 
-cast-pattern : tie.Need-overflow-cast-pattern invariant-loop decreases-loop
+cast-pattern : tie.Need-overflow_cast-pattern invariant-loop decreases-loop
 cast-pattern c = search rules
 
-best-score-requires : tie.Need-best-score-requires invariant-loop decreases-loop
+best-score-requires : tie.Need-best_score-gain-requires invariant-loop decreases-loop
 best-score-requires c κs =
-    let readable = c.before.before.before.before.before.before.requires.readable in
-    (readable.room, omega (arith, readable.few, c.noted-pattern.ensures.1))
+    let readable = c.requires.readable in
+    (readable.room, omega (arith, readable.few, c.noted_pattern-taken.ensures.1))
 
 -- the score that is read
-score : (c : tie.After-best-score invariant-loop decreases-loop) →
+score : (c : tie.After-best_score-gain invariant-loop decreases-loop) →
     let start = c.before.before.before.before.before.before.before in
     let a = start.args in
-    c.best-score.result ≡ score_in a.notes.now a.out.count (pattern_in a.notes.now c.before.before.before.loop.k)
+    c.best_score-gain.result ≡ score_in a.notes.now a.out.count (pattern_in a.notes.now c.loop-k.k)
 score c =
-    let a = c.before.before.before.before.before.before.before.args in
-    c.best-score.ensures a.out.count ∙ ap (score_in a.notes.now a.out.count) c.before.noted-pattern.ensures.0
+    let a = c.args in
+    c.best_score-gain.ensures a.out.count ∙ ap (score_in a.notes.now a.out.count) c.noted_pattern-taken.ensures.0
 
-sub-gain : tie.Need-overflow-sub-gain invariant-loop decreases-loop
+sub-gain : tie.Need-overflow_sub-gain invariant-loop decreases-loop
 sub-gain c =
     let start = c.before.before.before.before.before.before.before in
-    omega (arith, score c, start.requires.noted c.before.before.before.loop.k (omega arith))
+    omega (arith, score c, start.requires.noted c.loop-k.k (omega arith))
 
 -- what is charged
 charge : (c : tie.After-times invariant-loop decreases-loop) →
-    let a = c.before.before.before.before.before.before.before.before.args in
-    to_z w64 (of_z w64 c.times.result) ≡ pos (a.claim.p * gain_in a.notes.now a.out.count (pattern_in a.notes.now c.before.before.before.before.loop.k))
+    let a = c.args in
+    to_z w64 (of_z w64 c.times.result) ≡ pos (a.claim.p * gain_in a.notes.now a.out.count (pattern_in a.notes.now c.loop-k.k))
 charge c =
-    let a = c.before.before.before.before.before.before.before.before.args in
+    let a = c.args in
     to_z-of_z {w = w64} (record { sfits = c.times.type-inv }) ∙ c.times.ensures
     ∙ ap (λ (x : ℕ). pos (a.claim.p * (x - 1))) (score c.before)
 
@@ -75,81 +75,81 @@ bound : (c : tie.After-times invariant-loop decreases-loop) →
     let start = c.before.before.before.before.before.before.before.before in
     let a = start.args in
     to_z w64 (of_z w64 a.high) -ℤ to_z w64 (of_z w64 c.times.result)
-    ≡ a.high -ℤ pos (a.claim.p * gain_in a.notes.now a.out.count (pattern_in a.notes.now c.before.before.before.before.loop.k))
+    ≡ a.high -ℤ pos (a.claim.p * gain_in a.notes.now a.out.count (pattern_in a.notes.now c.loop-k.k))
 bound c =
     let start = c.before.before.before.before.before.before.before.before in
     ap₂ (λ y z. y -ℤ z) (to_z-of_z {w = w64} start.ranges.high) (charge c)
 
-sub-bound : tie.Need-overflow-sub-bound invariant-loop decreases-loop
+sub-bound : tie.Need-overflow_sub-bound invariant-loop decreases-loop
 sub-bound c =
     let start = c.before.before.before.before.before.before.before.before in
     let a = start.args in
-    let g = gain_in a.notes.now a.out.count (pattern_in a.notes.now c.before.before.before.before.loop.k) in
+    let g = gain_in a.notes.now a.out.count (pattern_in a.notes.now c.loop-k.k) in
     subst (SFits w64) (sym (bound c))
     (bound_fits a.high (a.claim.p * g)
-    (charge_small a.claim.p g (omega (arith, start.requires.fits_p)) (omega (arith, score c.before, c.before.best-score.type-inv)))
+    (charge_small a.claim.p g (omega (arith, start.requires.fits_p)) (omega (arith, score c.before, c.best_score-gain.type-inv)))
     start.requires.fits_high)
 
-target-holds-requires : tie.Need-target-holds-requires invariant-loop decreases-loop
+target-holds-requires : tie.Need-target_holds-requires invariant-loop decreases-loop
 target-holds-requires c κs =
     let start = c.before.before.before.before.before.before.before.before in
     let a = start.args in
-    subst (λ (p : ℕ). Findable a.s.now a.m.now a.claim.n (with_pattern a.out.cells a.out.state p)) (sym c.before.before.noted-pattern.ensures.0)
-    (start.requires.found c.before.before.before.before.loop.k (omega arith))
+    subst (λ (p : ℕ). Findable a.s.now a.m.now a.claim.n (with_pattern a.out.cells a.out.state p)) (sym c.noted_pattern-taken.ensures.0)
+    (start.requires.found c.loop-k.k (omega arith))
 
 -- what one turn tests
-turn : (c : tie.After-target-holds invariant-loop decreases-loop) (d : Certificate) →
-    let a = c.before.before.before.before.before.before.before.before.before.args in
+turn : (c : tie.After-target_holds invariant-loop decreases-loop) (d : Certificate) →
+    let a = c.args in
     read_certificate a.s.now ≡ some d →
-    c.target-holds.result
-    ≡ pattern_ok a.claim d.potentials a.notes.now a.out.count a.m.now a.out.cells a.out.state a.high (pattern_in a.notes.now c.before.before.before.before.before.loop.k)
+    c.target_holds.result
+    ≡ pattern_ok a.claim d.potentials a.notes.now a.out.count a.m.now a.out.cells a.out.state a.high (pattern_in a.notes.now c.loop-k.k)
 turn c d e =
-    let a = c.before.before.before.before.before.before.before.before.before.args in
-    c.target-holds.ensures d e
+    let a = c.args in
+    c.target_holds.ensures d e
     ∙ ap₂ le_z
-    (ap (λ (p : ℕ). potential_of d.potentials a.m.now a.claim.n (with_pattern a.out.cells a.out.state p)) c.before.before.before.noted-pattern.ensures.0)
+    (ap (λ (p : ℕ). potential_of d.potentials a.m.now a.claim.n (with_pattern a.out.cells a.out.state p)) c.noted_pattern-taken.ensures.0)
     (to_z-of_z {w = w64} (sub-bound c.before) ∙ bound c.before)
 
-returns : tie.Need-returns invariant-loop decreases-loop
+returns : tie.Need-returns-then-not-target_holds invariant-loop decreases-loop
 returns c d e =
-    let a = c.before.before.before.before.before.before.before.before.before.before.args in
-    let l = c.before.before.before.before.before.before.loop in
+    let a = c.args in
+    let l = c.loop-k in
     let ok = pattern_ok a.claim d.potentials a.notes.now a.out.count a.m.now a.out.cells a.out.state a.high in
     sym (all_map ok (pattern_in a.notes.now) (up_from 0 a.out.count)
-    ∙ all_stops (λ j. ok (pattern_in a.notes.now j)) l.k a.out.count (omega arith) (sym (turn c.before d e) ∙ not-true c.before.target-holds.result c.if1.true))
+    ∙ all_stops (λ j. ok (pattern_in a.notes.now j)) l.k a.out.count (omega arith) (sym (turn c.before d e) ∙ not-true c.target_holds.result c.if-not-target_holds.true))
 
-add-k : tie.Need-overflow-add-k invariant-loop decreases-loop
+add-k : tie.Need-overflow_add-k invariant-loop decreases-loop
 add-k c = search rules
 
-loop-less : tie.Need-loop-smaller invariant-loop decreases-loop
+loop-less : tie.Need-loop-k-smaller invariant-loop decreases-loop
 loop-less c = search rules
 
-loop-again : tie.Need-loop-preserved invariant-loop decreases-loop
+loop-again : tie.Need-loop-k-preserved invariant-loop decreases-loop
 loop-again c =
     let start = c.before.before.before.before.before.before.before.before.before.before in
     let a = start.args in
-    let l = c.before.before.before.before.before.before.loop in (
+    let l = c.loop-k in (
       omega arith,
       λ d e.
           let ok : ℤ → ℕ → Bool = λ z j.
           pattern_ok a.claim d.potentials a.notes.now a.out.count a.m.now a.out.cells a.out.state z (pattern_in a.notes.now j) in
           all-next (ok (to_z w64 (of_z w64 a.high))) l.k (l.invariant.1 d e)
-          (ap (λ (z : ℤ). ok z l.k) (to_z-of_z {w = w64} start.ranges.high) ∙ sym (turn c.before d e) ∙ not-false c.before.target-holds.result c.if1.false),
+          (ap (λ (z : ℤ). ok z l.k) (to_z-of_z {w = w64} start.ranges.high) ∙ sym (turn c.before d e) ∙ not-false c.target_holds.result c.if-not-target_holds.false),
     )
 
-returns-2 : tie.Need-returns-2 invariant-loop decreases-loop
+returns-2 : tie.Need-returns invariant-loop decreases-loop
 returns-2 c d e =
     let start = c.before.before.before.before.before in
     let a = start.args in
-    let l = c.before.loop in
+    let l = c.loop-k in
     let ok : ℤ → ℕ → Bool = λ z p. pattern_ok a.claim d.potentials a.notes.now a.out.count a.m.now a.out.cells a.out.state z p in
     let all-passed : l.k ≡ a.out.count = omega arith in
     sym (all_map (ok a.high) (pattern_in a.notes.now) (up_from 0 a.out.count)
     ∙ ap₂ (λ z n. all (λ j. ok z (pattern_in a.notes.now j)) (up_from 0 n)) (sym (to_z-of_z {w = w64} start.ranges.high)) (sym all-passed)
     ∙ l.invariant.1 d e)
 
-pub outcomes-hold-spec : {M : Type 1} → statement M
-outcomes-hold-spec =
+pub outcomes_hold_spec : {M : Type 1} → statement M
+outcomes_hold_spec =
     tie.close
     (tie.spec
     invariant-loop

@@ -11,17 +11,17 @@ use Rattle.discovery.specs.Discovery.{row_of}
 use Rattle.potentials.proofs.target_holds.Statement.{statement}
 use Rattle.potentials.proofs.target_holds.Tie as tie
 
-row-of-requires : tie.Need-row-of-requires
+row-of-requires : tie.Need-row_of-row-requires
 row-of-requires c κs = search rules
 
-find-requires : tie.Need-find-requires
+find-requires : tie.Need-find-v-requires
 find-requires c κs = search rules
 
 -- what is found is the number of the node's row
-number : (c : tie.After-find) → c.find.result ≡ index_in (rows_in c.before.before.before.before.before.args.m.now c.before.before.before.before.before.args.n) (row_of c.before.before.before.before.before.args.to)
+number : (c : tie.After-find-v) → c.find-v.result ≡ index_in (rows_in c.args.m.now c.args.n) (row_of c.args.to)
 number c =
-    let a = c.before.before.before.before.before.args in
-    c.find.ensures ∙ ap (index_in (rows_in a.m.now a.n)) c.before.before.row_of.ensures
+    let a = c.args in
+    c.find-v.ensures ∙ ap (index_in (rows_in a.m.now a.n)) c.row_of-row.ensures
 
 potential-requires : tie.Need-potential-requires
 potential-requires c κs =
@@ -35,5 +35,5 @@ returns c d e =
     (to_z-of_z {w = w64} (record { sfits = c.potential.type-inv }) ∙ c.potential.ensures d e ∙ ap (potential_at d.potentials) (number c.before))
     (to_z-of_z {w = w64} start.ranges.bound)
 
-pub target-holds-spec : {M : Type 1} → statement M
-target-holds-spec = tie.close (tie.spec row-of-requires find-requires potential-requires returns)
+pub target_holds_spec : {M : Type 1} → statement M
+target_holds_spec = tie.close (tie.spec row-of-requires find-requires potential-requires returns)

@@ -22,40 +22,40 @@ copied before after digits at k n l e c = record {
   next = ap (λ (i : ℕ). at + i) (l ∙ ap length e);
 }
 
-decimal-requires : tie.Need-decimal-requires
+decimal-requires : tie.Need-decimal-k-requires
 decimal-requires c κs = search rules
 
 -- the digits made are the decimal text's
-made : (c : tie.After-decimal) → c.decimal.result ≡ length (decimal c.before.before.before.args.n)
+made : (c : tie.After-decimal-k) → c.decimal-k.result ≡ length (decimal c.args.n)
 made c =
-    let e = c.decimal.ensures in
+    let e = c.decimal-k.ensures in
     e.0.1 ∙ ap length (e.1.1 ∙ digits_decimal _ _ e.1.0)
 
-array-share-prefix-digits : tie.Need-array-share-prefix-digits
+array-share-prefix-digits : tie.Need-slice_bounds-digits-end
 array-share-prefix-digits c = search rules
 
-slice-aggregate-copy : tie.Need-slice-aggregate-copy
+slice-aggregate-copy : tie.Need-slice_bounds-copy-end
 slice-aggregate-copy c = search rules
 
 copy-requires : tie.Need-copy-requires
 copy-requires c κs =
     let d = c.before.before in
-    (omega (arith, d.decimal.ensures.0.1), omega (arith, made d))
+    (omega (arith, d.decimal-k.ensures.in_bounds.1), omega (arith, made d))
 
-add-result : tie.Need-overflow-add-result
+add-result : tie.Need-overflow_add-result
 add-result c = omega (arith, made c.before.before.before.before.before)
 
-same_length : tie.Need-same-length
+same_length : tie.Need-shape_of-out
 same_length c = search rules
 
 returns : tie.Need-returns
 returns c =
     let d = c.before.before.before.before.before in
-    let e = d.decimal.ensures in
-    copied _ _ _ _ _ _ e.0.1 (e.1.1 ∙ digits_decimal _ _ e.1.0) c.before.before.copy.ensures
+    let e = d.decimal-k.ensures in
+    copied _ _ _ _ _ _ e.0.1 (e.1.1 ∙ digits_decimal _ _ e.1.0) c.copy.ensures
 
-pub put-number-spec : {M : Type 1} → statement M
-put-number-spec =
+pub put_number_spec : {M : Type 1} → statement M
+put_number_spec =
     tie.close
     (tie.spec
     decimal-requires

@@ -12,26 +12,26 @@ use Rattle.words.proofs.Numbers.{bytes-length}
 use Rattle.tracer.proofs.put_row.Statement.{statement}
 use Rattle.tracer.proofs.put_row.Tie as tie
 
-slice-write-out : tie.Need-slice-write-out
+slice-write-out : tie.Need-bounds-out-at
 slice-write-out c = search rules
 
-add-write-u16 : tie.Need-overflow-add-write-u16
+add-write-u16 : tie.Need-overflow_add-at
 add-write-u16 c = search rules
 
-write-u16-requires : tie.Need-write-u16-requires
+write-u16-requires : tie.Need-write_u16-requires
 write-u16-requires c κs = simp length-set (omega arith)
 
-add-out : tie.Need-overflow-add-out
+add-out : tie.Need-overflow_add-out
 add-out c = search rules
 
 -- after the gain's two bytes the output is as long as it was
-wrote : (c : tie.After-write-u16) → length c.write-u16.new.0 ≡ length c.before.before.before.args.out.now
-wrote c = c.write-u16.auto.0 ∙ length-set c.before.before.before.args.out.now c.before.before.before.args.at c.before.before.before.args.row.ran
+wrote : (c : tie.After-write_u16) → length c.write_u16.new.s ≡ length c.args.out.now
+wrote c = c.write_u16.auto.0 ∙ length-set c.args.out.now c.args.at c.args.row.ran
 
-slice-write-out-2 : tie.Need-slice-write-out-2
-slice-write-out-2 c = omega (arith, wrote c.before.before, c.before.before.before.before.before.requires)
+slice-write-out-2 : tie.Need-bounds-out-at-2
+slice-write-out-2 c = omega (arith, wrote c.before.before, c.requires)
 
-same_length : tie.Need-same-length
+same_length : tie.Need-shape_of-out
 same_length c = simp length-set (wrote c.before.before)
 
 returns : tie.Need-returns
@@ -40,10 +40,10 @@ returns c =
     let a = s.args in
     let two = bytes-length 2 a.row.gain in
     let three : length (a.row.ran ∷ bytes 2 a.row.gain) ≡ 3 = omega (arith, two) in
-    ap (λ (l : List ℕ). set l (a.at + 3) a.row.cut) (c.before.before.write-u16.ensures ∙ overwrite-cons a.out.now a.at a.row.ran (bytes 2 a.row.gain) (omega (arith, s.requires, two)))
+    ap (λ (l : List ℕ). set l (a.at + 3) a.row.cut) (c.write_u16.ensures ∙ overwrite-cons a.out.now a.at a.row.ran (bytes 2 a.row.gain) (omega (arith, s.requires, two)))
     ∙ overwrite-more a.out.now a.at (a.row.ran ∷ bytes 2 a.row.gain) 3 a.row.cut three (omega (arith, s.requires))
 
-pub put-row-spec : {M : Type 1} → statement M
-put-row-spec =
+pub put_row_spec : {M : Type 1} → statement M
+put_row_spec =
     tie.close
     (tie.spec slice-write-out add-write-u16 write-u16-requires add-out slice-write-out-2 same_length returns)

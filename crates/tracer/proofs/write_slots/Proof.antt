@@ -51,68 +51,68 @@ module _ (rules : Rules) (labels before now' cells : List ℕ) (ran i : ℕ) (ru
         (is ∙ sym (row_shown rules ruled cells h.held (get_or labels i 0) d slotted P t p ran)));
   }
 
-abbrev invariant-loop : tie.invariant-loop
+abbrev invariant-loop : tie.invariant-loop-slot
 invariant-loop rules labels out₀ cells₀ ran₀ i₀ out cells ran i = Reached rules labels out₀ out cells ran i
 
-abbrev decreases-loop : tie.decreases-loop
+abbrev decreases-loop : tie.decreases-loop-slot
 decreases-loop rules labels out₀ cells₀ ran₀ i₀ out cells ran i = length labels - i
 
-abbrev entry : tie.At-loop invariant-loop decreases-loop → tie.Start invariant-loop decreases-loop
+abbrev entry : tie.At-loop-slot invariant-loop decreases-loop → tie.Start invariant-loop decreases-loop
 entry l = l.before.before.before.before
 
-no-jobs-requires : tie.Need-no-jobs-requires invariant-loop decreases-loop
+no-jobs-requires : tie.Need-no_jobs-cells-requires invariant-loop decreases-loop
 no-jobs-requires c κs = search rules
 
-loop-holds : tie.Need-loop-init invariant-loop decreases-loop
-loop-holds c = reached-start _ _ _ _ (c.no-jobs.ensures _)
+loop-holds : tie.Need-loop-slot-init invariant-loop decreases-loop
+loop-holds c = reached-start _ _ _ _ (c.no_jobs-cells.ensures _)
 
-shared-slice-read-slot : tie.Need-shared-slice-read-slot invariant-loop decreases-loop
+shared-slice-read-slot : tie.Need-bounds-labels-slot invariant-loop decreases-loop
 shared-slice-read-slot c = search rules
 
-slot-requires : tie.Need-slot-requires invariant-loop decreases-loop
-slot-requires c κs = ((entry c.before.before).pre.0, c.before.before.loop.invariant.held)
+slot-requires : tie.Need-slot-done-requires invariant-loop decreases-loop
+slot-requires c κs = ((entry c.before.before).requires.0, c.loop-slot.invariant.held)
 
-task-number-requires : tie.Need-task-number-requires invariant-loop decreases-loop
+task-number-requires : tie.Need-task_number-task-requires invariant-loop decreases-loop
 task-number-requires c κs = search rules
 
-displaced-requires : tie.Need-displaced-requires invariant-loop decreases-loop
+displaced-requires : tie.Need-displaced-cut-requires invariant-loop decreases-loop
 displaced-requires c κs = search rules
 
-mul-put-row : tie.Need-overflow-mul-put-row invariant-loop decreases-loop
-mul-put-row c = omega (arith, (entry c.before.before.before.before.before.before.before).pre.1)
+mul-put-row : tie.Need-overflow_mul-slot invariant-loop decreases-loop
+mul-put-row c = omega (arith, (entry c.before.before.before.before.before.before.before).requires.1)
 
-put-row-requires : tie.Need-put-row-requires invariant-loop decreases-loop
+put-row-requires : tie.Need-put_row-requires invariant-loop decreases-loop
 put-row-requires c κs =
     let l = c.before.before.before.before.before.before.before in
-    omega (arith, (entry l).requires.1, l.loop.invariant.size)
+    omega (arith, (entry l).requires.1, l.loop-slot.invariant.size)
 
-add-slot : tie.Need-overflow-add-slot invariant-loop decreases-loop
+add-slot : tie.Need-overflow_add-slot invariant-loop decreases-loop
 add-slot c = search rules
 
-loop-less : tie.Need-loop-smaller invariant-loop decreases-loop
+loop-less : tie.Need-loop-slot-smaller invariant-loop decreases-loop
 loop-less c = search rules
 
-loop-again : tie.Need-loop-preserved invariant-loop decreases-loop
+loop-again : tie.Need-loop-slot-preserved invariant-loop decreases-loop
 loop-again c =
     let w = c.before.before.before in
     let x = w.before.before in
     let n = x.before.before in
     let d = n.before in
     let l = d.before.before.before in
-    rw (add-one l.loop.slot)
-    (reached-next _ _ _ _ _ _ _ (entry l).requires.0 (entry l).requires.1 l.loop.invariant d.before.before.loop-test.true d.slot.result d.slot.ensures
-    _ (λ i. record { ran = n.task-number.ensures i; gain = d.slot.result.gain; cut = x.displaced.ensures i }) _ w.put-row.ensures w.put-row.auto.0)
+    rw (add-one l.loop-slot.slot)
+    (reached-next _ _ _ _ _ _ _ (entry l).requires.0 (entry l).requires.1 l.loop-slot.invariant d.loop-slot-test.true d.slot-done.result d.slot-done.ensures
+    _ (λ i. record { ran = n.task_number-task.ensures i; gain = d.slot-done.result.gain; cut = x.displaced-cut.ensures i }) _ w.put_row.ensures w.put_row.auto.0)
 
-same_length : tie.Need-same-length invariant-loop decreases-loop
-same_length c = c.before.loop.invariant.size
+same_length : tie.Need-shape_of-out invariant-loop decreases-loop
+same_length c = c.loop-slot.invariant.size
 
 returns : tie.Need-returns invariant-loop decreases-loop
 returns c P t p =
     let l = c.before in
-    writing-end P _ _ _ _ _ _ (entry l).requires.1 (l.loop.invariant.writing P t p) c.loop-test.false
+    writing-end P _ _ _ _ _ _ (entry l).requires.1 (l.loop-slot.invariant.writing P t p) c.loop-slot-test.false
 
-pub write-slots-spec : {M : Type 1} → statement M
-write-slots-spec =
+pub write_slots_spec : {M : Type 1} → statement M
+write_slots_spec =
     tie.close
     (tie.spec
     invariant-loop

@@ -18,59 +18,59 @@ use Rattle.widen.proofs.Front.{read_length, widened-length, widened-room, certif
 use Rattle.widen.proofs.write.Statement.{statement}
 use Rattle.widen.proofs.write.Tie as tie
 
-module _ (k : tie.After-shared-slice-known) where
+module _ (k : tie.After-shared_slice_known-1) where
   abbrev bs : List ℕ
-  bs = k.before.args.s.now
+  bs = k.args.s.now
 
   abbrev from : ℕ
-  from = k.before.args.parts.from
+  from = k.args.parts.from
 
   abbrev n : ℕ
-  n = k.before.args.parts.steps
+  n = k.args.parts.steps
 
   are-bytes : AreBytes bs
-  are-bytes i = (k.shared-slice-known.given i).fits
+  are-bytes i = (k.shared_slice_known-1.given i).fits
 
   -- the steps stand within the bytes
   inside : length bs ≡ from + step_width first_edition * n + 1
-  inside = read_length bs are-bytes k.before.args.parts k.before.pre.0
+  inside = read_length bs are-bytes k.args.parts k.requires.read
 
   -- and the certificate within the room
   room : from + step_size * n + 1 ≤ certificate_room
-  room = widened-room bs are-bytes k.before.args.parts k.before.pre.0
+  room = widened-room bs are-bytes k.args.parts k.requires.read
 
 copy-requires : tie.Need-copy-requires
-copy-requires c κs = let k = c.before.before in (omega (arith, inside k), omega (arith, room k, k.before.requires.1))
+copy-requires c κs = let k = c.before.before in (omega (arith, inside k), omega (arith, room k, k.requires.certificate_room_in_bounds))
 
 -- the output's length is as it was
-first : (c : tie.After-copy) → length c.copy.new.1.1.0 ≡ length c.before.before.before.before.args.out.now
+first : (c : tie.After-copy) → length c.copy.new.dst ≡ length c.args.out.now
 first c = c.copy.auto.1.1.0
 
-second : (c : tie.After-widen-steps) → length c.widen-steps.new.1.1.0 ≡ length c.before.before.before.before.before.before.before.before.args.out.now
-second c = c.widen-steps.auto.1.1.0 ∙ first c.before.before.before.before
+second : (c : tie.After-widen_steps) → length c.widen_steps.new.out ≡ length c.args.out.now
+second c = c.widen_steps.auto.1.1.0 ∙ first c.before.before.before.before
 
-widen-steps-requires : tie.Need-widen-steps-requires
+widen-steps-requires : tie.Need-widen_steps-requires
 widen-steps-requires c κs =
     let u = c.before.before.before in
     let k = u.before.before.before in
-    (omega (arith, inside k), omega (arith, room k, k.before.requires.1, first u))
+    (omega (arith, inside k), omega (arith, room k, k.requires.certificate_room_in_bounds, first u))
 
-mul-end : tie.Need-overflow-mul-end
+mul-end : tie.Need-overflow_mul-end
 mul-end c = omega (arith, room c.before.before.before.before.before.before.before.before.before)
 
-add-end : tie.Need-overflow-add-end
+add-end : tie.Need-overflow_add-end
 add-end c = omega (arith, room c.before.before.before.before.before.before.before.before.before)
 
-write-end-requires : tie.Need-write-end-requires
+write-end-requires : tie.Need-write_end-requires
 write-end-requires c κs =
     let v = c.before.before.before in
     let k = v.before.before.before.before.before.before.before in
-    omega (arith, room k, k.before.requires.1, second v)
+    omega (arith, room k, k.requires.certificate_room_in_bounds, second v)
 
-add-result : tie.Need-overflow-add-result
+add-result : tie.Need-overflow_add-result
 add-result c = omega (arith, room c.before.before.before.before.before.before.before.before.before.before.before.before.before)
 
-same_length : tie.Need-same-length
+same_length : tie.Need-shape_of-out
 same_length c = search rules
 
 returns : tie.Need-returns
@@ -81,11 +81,11 @@ returns c =
     let k = u.before.before.before in
     let s = k.before in
     let end = from k + step_size * n k in (
-      sym (widened-length (bs k) (are-bytes k) s.args.parts s.requires.0),
-      w.write-end.ensures
+      sym (widened-length (bs k) (are-bytes k) s.args.parts s.requires.read),
+      w.write_end.ensures
           ∙ ap (λ m. overwrite m end end_bytes)
-          (v.widen-steps.ensures ∙ ap (λ m. overwrite m (from k) (written first_edition long_reads (bs k) (from k) (n k))) u.copy.ensures)
-          ∙ certificate-written (bs k) (are-bytes k) s.args.parts s.requires.0 s.args.out.now s.requires.1,
+          (v.widen_steps.ensures ∙ ap (λ m. overwrite m (from k) (written first_edition long_reads (bs k) (from k) (n k))) u.copy.ensures)
+          ∙ certificate-written (bs k) (are-bytes k) s.args.parts s.requires.read s.args.out.now s.requires.certificate_room_in_bounds,
     )
 
 pub write_spec : {M : Type 1} → statement M

@@ -18,67 +18,67 @@ use Rattle.writer.proofs.write.Tie as tie
 few : (c : tie.Start) → c.args.n ≤ max_nodes
 few c = count-few c.requires.1.solvable.solving
 
-cast-write-head : tie.Need-overflow-cast-write-head
+cast-write-head : tie.Need-overflow_cast-n
 cast-write-head c = record { fits = omega (arith, few c.before.before.before) }
 
-write-head-requires : tie.Need-write-head-requires
-write-head-requires c κs = omega (arith, c.before.before.before.requires.4)
+write-head-requires : tie.Need-write_head-requires
+write-head-requires c κs = omega (arith, c.requires.4)
 
-write-potentials-requires : tie.Need-write-potentials-requires
+write-potentials-requires : tie.Need-write_potentials-requires
 write-potentials-requires c κs =
     let start = c.before.before.before.before.before.before.before in
-    (few start, start.requires.2, omega (arith, few start, start.requires.4, c.before.before.before.write-head.auto.0))
+    (few start, start.requires.2, omega (arith, few start, start.requires.4, c.write_head.auto.0))
 
 -- the head and the potentials are written
-abbrev first : tie.After-write-potentials → tie.Start
+abbrev first : tie.After-write_potentials → tie.Start
 first c = c.before.before.before.before.before.before.before.before
 
-size : (c : tie.After-write-potentials) → length c.write-potentials.new.1.1.0 ≡ length (first c).args.out.now
-size c = c.write-potentials.auto.1.1.0 ∙ c.before.before.before.before.write-head.auto.0
+size : (c : tie.After-write_potentials) → length c.write_potentials.new.out ≡ length (first c).args.out.now
+size c = c.write_potentials.auto.1.1.0 ∙ c.write_head.auto.0
 
-front : (c : tie.After-write-potentials) →
+front : (c : tie.After-write_potentials) →
     let a = (first c).args in
-    c.write-potentials.new.1.1.0
+    c.write_potentials.new.out
     ≡ fronted a.solution.p a.solution.q a.n (distances_in a.m.now a.n) a.out.now
 front c =
-    c.write-potentials.ensures
+    c.write_potentials.ensures
     ∙ ap (λ x. overwrite x head_size (potentials_bytes (distances_in (first c).args.m.now (first c).args.n)))
-    c.before.before.before.before.write-head.ensures
+    c.write_head.ensures
 
-mul_at : tie.Need-overflow-mul-at
+mul_at : tie.Need-overflow_mul-at
 mul_at c = record { fits = omega (arith, few (first c.before.before)) }
 
-add_at : tie.Need-overflow-add-at
+add_at : tie.Need-overflow_add-at
 add_at c = record { fits = omega (arith, few (first c.before.before)) }
 
-write-end-requires : tie.Need-write-end-requires
+write-end-requires : tie.Need-write_end-requires
 write-end-requires c κs =
     let w = c.before.before.before.before in
     omega (arith, few (first w), (first w).requires.4, size w)
 
-add-result : tie.Need-overflow-add-result
+add-result : tie.Need-overflow_add-result
 add-result c = record { fits = omega (arith, few (first c.before.before.before.before.before.before.before)) }
 
-same_length : tie.Need-same-length
-same_length c = c.before.before.write-end.auto.0 ∙ size c.before.before.before.before.before.before.before
+same_length : tie.Need-shape_of-out-then-q-eq0
+same_length c = c.write_end.auto.0 ∙ size c.before.before.before.before.before.before.before
 
-returns : tie.Need-returns
+returns : tie.Need-returns-then-q-eq0
 returns c =
     let end = c.before.before in
     let w = end.before.before.before.before.before in
     let start = first w in (
       λ P next h.
-          written_bare h end.before.before.if1.true start.pre.4
-          (end.write-end.ensures ∙ ap (λ x. overwrite x (potentials_end start.args.n) end_bytes) (front w)),
+          written_bare h end.if-q-eq0.true start.pre.4
+          (end.write_end.ensures ∙ ap (λ x. overwrite x (potentials_end start.args.n) end_bytes) (front w)),
       only_refl,
     )
 
-write-cycle-requires : tie.Need-write-cycle-requires
+write-cycle-requires : tie.Need-write_cycle-end-requires
 write-cycle-requires c κs =
     let w = c.before.before.before.before.before in
     let start = first w in
     let h = start.pre.1.solvable.solving in
-    let some : 0 < start.args.solution.q = omega (arith, c.before.before.if1.false) in (
+    let some : 0 < start.args.solution.q = omega (arith, c.if-q-eq0.false) in (
       start.pre.0,
       turning h some start.pre.2,
       steps-some h some,
@@ -87,50 +87,50 @@ write-cycle-requires c κs =
     )
 
 -- the cycle is written
-abbrev second : tie.After-write-cycle → tie.After-write-potentials
+abbrev second : tie.After-write_cycle-end → tie.After-write_potentials
 second c = c.before.before.before.before.before.before
 
-some-q : (c : tie.After-write-cycle) → 0 < (first (second c)).args.solution.q
-some-q c = omega (arith, c.before.before.before.if1.false)
+some-q : (c : tie.After-write_cycle-end) → 0 < (first (second c)).args.solution.q
+some-q c = omega (arith, c.if-q-eq0.false)
 
-full_size : (c : tie.After-write-cycle) → length c.write-cycle.new.1.1.1.1.0 ≡ length (first (second c)).args.out.now
-full_size c = c.write-cycle.auto.1.1.1.1.0 ∙ size (second c)
+full_size : (c : tie.After-write_cycle-end) → length c.write_cycle-end.new.out ≡ length (first (second c)).args.out.now
+full_size c = c.write_cycle-end.auto.1.1.1.1.0 ∙ size (second c)
 
 -- there is room for the end
-room : (c : tie.After-write-cycle) → cycle_end (first (second c)).args.n (first (second c)).args.solution.steps < certificate_room
+room : (c : tie.After-write_cycle-end) → cycle_end (first (second c)).args.n (first (second c)).args.solution.steps < certificate_room
 room c =
     let start = first (second c) in
     omega (arith, few start, steps-few start.pre.1.solvable.solving (some-q c))
 
-write-end-requires-2 : tie.Need-write-end-requires-2
+write-end-requires-2 : tie.Need-write_end-requires-2
 write-end-requires-2 c κs =
     let w = c.before.before.before in
-    omega (arith, w.write-cycle.ensures.0, room w, (first (second w)).requires.4, full_size w)
+    omega (arith, w.write_cycle-end.ensures.value, room w, (first (second w)).requires.4, full_size w)
 
-add-result-2 : tie.Need-overflow-add-result-2
+add-result-2 : tie.Need-overflow_add-result-2
 add-result-2 c =
     let w = c.before.before.before.before.before.before in
-    record { fits = omega (arith, w.write-cycle.ensures.0, room w) }
+    record { fits = omega (arith, w.write_cycle-end.ensures.value, room w) }
 
-same-length-2 : tie.Need-same-length-2
-same-length-2 c = c.before.before.write-end2.auto.0 ∙ full_size c.before.before.before.before.before.before
+same-length-2 : tie.Need-shape_of-out
+same-length-2 c = c.write_end-2.auto.0 ∙ full_size c.before.before.before.before.before.before
 
-returns-2 : tie.Need-returns-2
+returns-2 : tie.Need-returns
 returns-2 c =
-    let end = c.before.before.write-end2 in
+    let end = c.write_end-2 in
     let w = c.before.before.before.before.before.before in
     let start = first (second w) in
     let a = start.args in
-    let middle = w.write-cycle.new.1.1.1.1.0 in
-    let at = w.write-cycle.ensures.0 in (
+    let middle = w.write_cycle-end.new.out in
+    let at = w.write_cycle-end.ensures.value in (
       λ P next h.
           let t = h.cycle (some-q w) in
-          let cycle = w.write-cycle.ensures.1.0 P next a.n t.node t.edges (turns h (some-q w)) in
+          let cycle = w.write_cycle-end.ensures.writes_cycle P next a.n t.node t.edges (turns h (some-q w)) in
           subst (Written P a.solution.passes a.out.now end.new.0) (ap (λ (x : ℕ). x + 1) (sym at))
           (written_full h (some-q w) start.pre.4
           (subst (λ x. WritesCycle P a.m.now a.solution.steps t.node x (potentials_end a.n) middle) (front (second w)) cycle)
           (end.ensures ∙ ap (λ (x : ℕ). overwrite middle x end_bytes) at)),
-      w.write-cycle.ensures.1.1,
+      w.write_cycle-end.ensures.notes_free,
     )
 
 pub write_spec : {M : Type 1} → statement M

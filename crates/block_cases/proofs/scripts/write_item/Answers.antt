@@ -1,0 +1,20 @@
+-- `block_cases::scripts::write_item` meets its contract: the line of the last write fits its room.
+-- Assumes nothing.
+use native.Mathlib.Omega.{arith}
+use borrow.Author.Rules.{rules, elem_Fits}
+use mir.Syntax.{w8}
+use Rattle.text.proofs.Put.{put-inside}
+use Rattle.block_cases.proofs.Moves.{script_line}
+use Rattle.block_cases.proofs.scripts.write_item.Goals as goal
+
+pub put_line-n-requires : goal.put_line-n-requires
+put_line-n-requires c =
+    let k = c.registers-bytes in
+    let w = c.run_item-written in
+    omega (arith, script_line _ _ w.result k.result w.ensures (λ i. (elem_Fits w8 w8 k.result _ i k.type-inv.1.1 tt).fits) k.type-inv.1.0.1)
+
+pub slice_bounds-line-end : goal.slice_bounds-line-end
+slice_bounds-line-end c = (put-inside _ _ _ _ c.put_line-n.ensures).0
+
+pub slice_bounds-write_all-end : goal.slice_bounds-write_all-end
+slice_bounds-write_all-end c = (put-inside _ _ _ _ c.put_line-n.ensures).1

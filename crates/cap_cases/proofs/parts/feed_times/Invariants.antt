@@ -1,0 +1,12 @@
+-- `cap_cases::parts::feed_times` meets its contract: each turn feeds the labels once more.
+-- Assumes nothing.
+use Prim.Native.Nat.{◌-◌}
+use borrow.Author.Rules.{rules}
+use Rattle.cap_cases.proofs.Times.{Through, through_start, through_goes, through_next, through_end}
+use Rattle.cap_cases.proofs.parts.feed_times.Given as goal
+
+abbrev pub invariant-loop-made : goal.invariant-loop-made
+invariant-loop-made l = Through l.cap l.initial.after l.after l.labels l.times l.made
+
+abbrev pub decreases-loop-made : goal.decreases-loop-made
+decreases-loop-made l = l.times - l.made

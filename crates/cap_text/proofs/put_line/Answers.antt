@@ -1,0 +1,46 @@
+-- `cap_text::put_line` meets its contract: each answer has its line.
+-- Assumes nothing.
+use mathlib.Core.Path.{◌≡◌, refl, sym, ap, ◌∙◌}
+use mathlib.Core.List.{List}
+use Prim.Native.Nat.{ℕ}
+use native.Mathlib.Omega.{arith}
+use Rattle.io.specs.Counts.{IsPrefixLen}
+use Rattle.model.specs.Bytes.{Put}
+use Rattle.model.specs.Text.{refused_line, cap_text}
+use Rattle.words.proofs.Put.{put_as}
+use Rattle.text.proofs.Decimal.{number-most, refused-most}
+use Rattle.text.proofs.Put.{put-inside}
+use Rattle.cap.specs.View.{answer_of}
+use Rattle.cap.specs.declared.Answer.{Answer}
+use borrow.Author.Rules.{rules}
+use Rattle.cap_text.proofs.put_line.Goals as goal
+
+-- the line of the answer that a match has told
+as_line : {a b : Answer} {m l bs : List ℕ} {n : ℕ} → a ≡ b → bs ≡ cap_text (answer_of b) → Put m l 0 bs n → Put m l 0 (cap_text (answer_of a)) n × IsPrefixLen n l
+as_line {a} {m = m} {l = l} {n = n} e f p =
+    let q = put_as (f ∙ sym (ap (λ (r : Answer). cap_text (answer_of r)) e)) p in
+    (q, put-inside m l (cap_text (answer_of a)) n q)
+
+pub put_refusal-requires : goal.put_refusal-requires
+put_refusal-requires c = omega (arith, refused-most c.number.result (omega arith))
+
+pub put_number_line-requires : goal.put_number_line-requires
+put_number_line-requires c = omega (arith, number-most c.in-Over.t (omega arith))
+
+pub returns-in-Refused : goal.returns-in-Refused
+unfolding cap_text
+returns-in-Refused c =
+    let x = c in
+    as_line x.in-Refused.is (ap refused_line x.number.ensures) x.put_refusal.ensures
+
+pub returns-in-Over : goal.returns-in-Over
+unfolding cap_text
+returns-in-Over c =
+    let x = c in
+    as_line x.in-Over.is refl x.put_number_line.ensures
+
+pub returns-in-Kept : goal.returns-in-Kept
+unfolding cap_text
+returns-in-Kept c =
+    let x = c in
+    as_line x.in-Kept.is refl x.put_bytes.ensures

@@ -1,0 +1,20 @@
+-- `check_cap::check` meets its contract: the labels that were read, fed from the first on.
+-- Assumes nothing.
+use mathlib.Core.List.{[]}
+use native.Mathlib.Omega.{arith}
+use lib.ListN.{take}
+use Rattle.cap.proofs.Answers.{watching_from, checked}
+use borrow.Author.Rules.{rules}
+use Rattle.check_cap.proofs.check.Goals as goal
+
+pub feed_parts-watch-requires : goal.feed_parts-watch-requires
+feed_parts-watch-requires c = watching_from _ _ _ _ _ _ (omega arith) c.begin-begun.ensures
+
+pub returns : goal.returns
+returns c =
+    let b = c in
+    let r = b in
+    let f = c.feed_parts-watch.ensures in
+    let plan = take r.read_full-length.result r.read_full-length.new.buf in
+    let a = c.args in
+    (plan, f.0, checked plan f.0 a.slots a.work _ _ (f.1 plan a.slots a.work [] b.begin-begun.ensures))

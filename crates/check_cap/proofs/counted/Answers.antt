@@ -1,0 +1,12 @@
+-- `check_cap::counted` meets its contract: both arguments are numbers, or one is none.
+-- Assumes nothing.
+use mathlib.Core.Path.{sym}
+use Rattle.check_cap.specs.Commands.{counted_is}
+use borrow.Author.Rules.{rules}
+use Rattle.check_cap.proofs.counted.Goals as goal
+
+pub returns : goal.returns
+returns c =
+    let w = c in
+    let k = w in
+    sym (λ i. counted_is (k.in-Of.is i) (w.in-Of-work.is i))

@@ -1,0 +1,17 @@
+-- `check_cap::feed_part` meets its contract: what was read is fed.
+-- Assumes nothing.
+use mathlib.Core.List.{[]}
+use native.Mathlib.Omega.{arith}
+use lib.ListN.{take}
+use Rattle.cap.proofs.Answers.{feeds_none, watching_more}
+use Rattle.check_cap.specs.Commands.{part_bytes}
+use borrow.Author.Rules.{rules}
+use Rattle.check_cap.proofs.feed_part.Goals as goal
+
+pub feed-watch-requires : goal.feed-watch-requires
+feed-watch-requires c = watching_more _ _ _ [] part_bytes _ (let r = c in omega (arith, r.read_full-count.ensures, r.read_full-count.auto, r.large_buffer-labels.type-inv)) (feeds_none _ _) c.requires
+
+pub returns : goal.returns
+returns c =
+    let r = c in
+    (take r.read_full-count.result r.read_full-count.new.buf, r.read_full-count.ensures.1, omega (arith, r.read_full-count.ensures, r.read_full-count.auto, r.large_buffer-labels.type-inv), c.feed-watch.ensures)

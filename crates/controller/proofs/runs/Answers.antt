@@ -1,0 +1,11 @@
+-- `controller::runs` meets its contract.
+-- Assumes nothing.
+use Rattle.std.proofs.Common.{sym}
+use Rattle.controller.proofs.Writes.{other_byte, by_value}
+use Rattle.controller.proofs.runs.Goals as goal
+
+pub returns-then-byte-ne-RUN : goal.returns-then-byte-ne-RUN
+returns-then-byte-ne-RUN c = let s = c in sym (other_byte s.args.byte s.args.value c.if-byte-ne-RUN.true)
+
+pub returns : goal.returns
+returns c = let s = c in sym (by_value s.args.byte s.args.value c.if-byte-ne-RUN.false)

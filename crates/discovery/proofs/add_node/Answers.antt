@@ -1,0 +1,24 @@
+-- `discovery::add_node` meets its contract: the row is found or appended. Assumes nothing.
+use native.Mathlib.Omega.{arith}
+use borrow.Author.Rules.{rules}
+use Rattle.store.specs.declared.Found.TheVariants.{Full, At}
+use Rattle.discovery.proofs.Nodes.{adds_answer}
+use Rattle.discovery.proofs.add_node.Goals as goal
+
+pub returns-in-Full : goal.returns-in-Full
+returns-in-Full c =
+    let call = c in
+    let start = call in
+    let a = start.args in
+    adds_answer a.node (omega (arith, start.well_formed)) a.m.now call.find_or_append.new.m a.n
+    call.row_of-row.result call.row_of-row.ensures
+    call.find_or_append.result Full call.find_or_append.ensures c.in-Full.is
+
+pub returns-in-At : goal.returns-in-At
+returns-in-At c =
+    let call = c in
+    let start = call in
+    let a = start.args in
+    adds_answer a.node (omega (arith, start.well_formed)) a.m.now call.find_or_append.new.m a.n
+    call.row_of-row.result call.row_of-row.ensures
+    call.find_or_append.result (At _ _) call.find_or_append.ensures c.in-At.is

@@ -1,0 +1,23 @@
+-- `gap::rewrite_set` meets its contract: short output first, then the plan's faults, then the gap's.
+-- Assumes nothing.
+use Rattle.plan.specs.View.{plan_of}
+use Rattle.plan.proofs.View.{read_as}
+use Rattle.refusals.proofs.Told.{told_by, told-refusal}
+use Rattle.gap.proofs.Answers.{short, by_reading}
+use borrow.Author.Rules.{rules}
+use Rattle.gap.proofs.rewrite_set.Goals as goal
+
+pub returns-then-out-lt-PLAN_ROOM : goal.returns-then-out-lt-PLAN_ROOM
+returns-then-out-lt-PLAN_ROOM c = told-refusal _ _ _ _ (short _ _ _ _ c.if-out-lt-PLAN_ROOM.true)
+
+pub returns-in-Faulty : goal.returns-in-Faulty
+returns-in-Faulty c =
+    let r = c in
+    told-refusal _ _ _ _ (by_reading _ _ _ _ _ r.if-out-lt-PLAN_ROOM.false (read_as (plan_of r.read-read.result.plan) r.read-read.ensures.1 c.in-Faulty.is))
+
+pub returns-in-Sound : goal.returns-in-Sound
+returns-in-Sound c =
+    let w = c in
+    let r = w in
+    let P = plan_of r.read-read.result.plan in
+    told_by (by_reading _ _ _ _ _ r.if-out-lt-PLAN_ROOM.false (read_as P r.read-read.ensures.1 w.in-Sound.is)) w.gap_in.ensures

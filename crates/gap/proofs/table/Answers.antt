@@ -1,0 +1,50 @@
+-- `gap::table` meets its contract: each turn writes the entry of one pair.
+-- Assumes nothing.
+use mathlib.Core.Path.{◌≡◌, sym, ap, ◌∙◌}
+use mathlib.Core.List.{List, map}
+use Prim.Native.Nat.{ℕ, ◌-◌, ◌≤◌}
+use native.Mathlib.Omega.{arith}
+use lib.ListN.{length, length-replicate}
+use Rattle.model.specs.Bytes.{overwrite}
+use Rattle.model.specs.Lists.{up_from}
+use Rattle.words.proofs.Memory.{overwrite-none}
+use Rattle.words.proofs.Tables.{written-more, written_all}
+use Rattle.plan.specs.View.{pair_count, empty_table}
+use Rattle.gap.specs.Automaton.{pair_entry}
+use borrow.Author.Rules.{rules}
+use Rattle.gap.proofs.table.Goals as goal
+
+-- the table has an entry for each pair
+size : {l : List ℕ} → l ≡ empty_table → length l ≡ pair_count
+size e = ap length e ∙ length-replicate {A = ℕ} pair_count 0
+
+pub loop-k-init : goal.loop-k-init
+loop-k-init c = (omega arith, sym (overwrite-none _ 0))
+
+pub overflow_cast-k : goal.overflow_cast-k
+overflow_cast-k c = omega arith
+
+pub overflow_cast-k-in-loop-k : goal.overflow_cast-k-in-loop-k
+overflow_cast-k-in-loop-k c = omega arith
+
+pub bounds-next-k : goal.bounds-next-k
+bounds-next-k c = omega arith
+
+pub overflow_add-k : goal.overflow_add-k
+overflow_add-k c = omega arith
+
+pub loop-k-smaller : goal.loop-k-smaller
+loop-k-smaller c = omega arith
+
+pub loop-k-preserved : goal.loop-k-preserved
+loop-k-preserved c =
+    let l = c in
+    let k = l.loop-k.k in
+    let t = l.empty_table-next in
+    (omega arith, written-more (pair_entry l.args.gap) 0 t.result 0 k k k (omega arith) (omega arith) (omega (arith, size t.ensures)) c.entry.ensures l.loop-k.invariant.1)
+
+pub returns : goal.returns
+returns c =
+    let l = c in
+    let t = l.empty_table-next in
+    written_all (pair_entry l.args.gap) 0 t.result l.loop-k.k pair_count (omega arith) (sym (size t.ensures)) l.loop-k.invariant.1

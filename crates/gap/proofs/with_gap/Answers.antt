@@ -1,0 +1,13 @@
+-- `gap::with_gap` meets its contract: the table's arcs are the automaton's.
+-- Assumes nothing.
+use Rattle.gap.proofs.Automaton.{replaced_sized, replaced-plan}
+use borrow.Author.Rules.{rules}
+use Rattle.gap.proofs.with_gap.Goals as goal
+
+pub returns : goal.returns
+returns c =
+    let s = c in
+    let a = s.args in (
+      replaced_sized a.plan s.requires.0 a.set a.slots c.table-next.result c.table-next.ensures,
+      replaced-plan a.plan s.requires.0 a.set a.slots c.table-next.result c.table-next.ensures s.requires.1 s.requires.2,
+    )

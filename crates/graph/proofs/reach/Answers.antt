@@ -1,0 +1,26 @@
+-- `graph::reach` meets its contract. Assumes nothing.
+use mathlib.Core.Path.{◌≡◌, ap, ◌∙◌}
+use mathlib.Core.List.{foldl}
+use borrow.Author.Rules.{rules}
+use Rattle.words.proofs.Free.{only_trans}
+use Rattle.policy.specs.View.{tasks_in}
+use Rattle.graph.specs.Outcomes.{Notes, outcomes, note, notes_in, noted_of, nothing_noted}
+use Rattle.graph.proofs.Notes.{keeps_free}
+use Rattle.graph.proofs.Labels.{label-readable}
+use Rattle.graph.proofs.reach.Goals as goal
+
+pub returns : goal.returns
+returns c =
+    let noted = c.note_choices-count in
+    let cleared = c.clear_notes in
+    let start = c in
+    let a = start.args in
+    let after = noted.new.1.1.1.0 in
+    let notes : notes_in after noted.result ≡ noted_of (tasks_in a.rules) a.label a.node.taken a.wanted nothing_noted =
+    noted.ensures.notes ∙ ap (λ (n : Notes). foldl (note a.wanted) n (outcomes (tasks_in a.rules) a.label a.node.taken)) cleared.ensures.notes in
+    record {
+      slot = c.slot-done.ensures;
+      notes = notes;
+      readable = label-readable (tasks_in a.rules) start.requires.0.tasks a.label a.node.taken a.wanted start.requires.2 after noted.result notes noted.ensures.room;
+      only = only_trans cleared.ensures.only (keeps_free noted.ensures.keeps);
+    }

@@ -1,0 +1,22 @@
+-- `links::link_to` meets its contract: each field is read from its place.
+-- Assumes nothing.
+use mathlib.Core.Path.{◌∙◌}
+use mir.Syntax.{w64}
+use mir.Facts.{to_z-of_z}
+use Prim.Native.Nat.{◌+◌}
+use lib.ListN.{get_or}
+use borrow.Author.Rules.{rules}
+use Rattle.links.specs.Links.{link_place}
+use Rattle.links.proofs.link_to.Goals as goal
+
+pub returns : goal.returns
+returns c =
+    let w = c in
+    let m = w.args.m.now in
+    let v = w.args.v in
+    λ i. record {
+      distance = (to_z-of_z {w = w64} (record { sfits = w.read_i64-distance.type-inv }) ∙ w.read_i64-distance.ensures) i;
+      parent = w.read_u16-parent.ensures i;
+      label = get_or m (link_place v + 10) 0;
+      mark = get_or m (link_place v + 11) 0;
+    }

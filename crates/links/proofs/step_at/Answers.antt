@@ -1,0 +1,14 @@
+-- `links::step_at` meets its contract: each field is read from its place.
+-- Assumes nothing.
+use Prim.Native.Nat.{◌+◌}
+use lib.ListN.{get_or}
+use borrow.Author.Rules.{rules}
+use Rattle.links.specs.Links.{step_place}
+use Rattle.links.proofs.step_at.Goals as goal
+
+pub returns : goal.returns
+returns c =
+    let w = c in
+    let m = w.args.m.now in
+    let i = w.args.i in
+    λ j. record { node = w.read_u16-node.ensures j; label = get_or m (step_place i + 2) 0 }

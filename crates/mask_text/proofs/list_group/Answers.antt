@@ -1,0 +1,56 @@
+-- `mask_text::list_group` meets its contract: the masks below m that have c ones are listed.
+-- Assumes nothing.
+use mathlib.Core.Path.{◌≡◌, refl, ap, ◌∙◌}
+use mathlib.Core.List.{[], ◌∷◌}
+use borrow.Author.Rules.{rules}
+use Prim.Native.Nat.{ℕ, ◌+◌, ◌-◌, ◌≤◌}
+use native.Mathlib.Omega.{arith}
+use lib.Dec.{eqb}
+use lib.ListN.{length, length-append}
+use Rattle.model.specs.Bytes.{Put}
+use Rattle.model.specs.Limits.{max_window}
+use Rattle.model.specs.Lists.{keep, up_from, ones}
+use Rattle.model.specs.Masks.{mask_count, group}
+use Rattle.words.proofs.Put.{put-none, put_then, put_as}
+use Rattle.mask_text.proofs.Listed.{keep-more, keep-first}
+use Rattle.mask_text.proofs.list_group.Goals as goal
+
+-- the masks below m and m itself have room
+room : (c m at size : ℕ) → m + 1 ≤ mask_count → at + length (group c) ≤ size →
+    at + length (keep (λ k. eqb (ones max_window k) c) (up_from 0 m)) + length (keep (λ k. eqb (ones max_window k) c) (m ∷ [])) ≤ size
+unfolding group
+room c m at size h fits =
+    omega (
+      arith,
+      keep-first (λ k. eqb (ones max_window k) c) (m + 1) mask_count h,
+      ap length (keep-more (λ k. eqb (ones max_window k) c) m),
+      length-append (keep (λ k. eqb (ones max_window k) c) (up_from 0 m)) (keep (λ k. eqb (ones max_window k) c) (m ∷ [])),
+    )
+
+pub loop-m-init : goal.loop-m-init
+loop-m-init c = (omega arith, refl, put-none _ _)
+
+pub list_mask-end-requires : goal.list_mask-end-requires
+list_mask-end-requires c =
+    let l = c in
+    let s = l in
+    (omega arith, omega (arith, l.loop-m.invariant.1, l.loop-m.invariant.2.next, room s.args.c l.loop-m.m s.args.at _ (omega arith) s.requires))
+
+pub loop-m-preserved : goal.loop-m-preserved
+loop-m-preserved c =
+    let w = c in
+    let l = w in
+    let s = l in
+    let more = w.list_mask-end.ensures in
+    let fits = room s.args.c l.loop-m.m s.args.at _ (omega arith) s.requires in
+    (omega arith, w.list_mask-end.auto.0 ∙ l.loop-m.invariant.1, put_as (keep-more (λ k. eqb (ones max_window k) s.args.c) l.loop-m.m) (put_then l.loop-m.invariant.2 more (omega (arith, fits, more.next, l.loop-m.invariant.2.next))))
+
+pub shape_of-table : goal.shape_of-table
+shape_of-table c = c.loop-m.invariant.1
+
+pub returns : goal.returns
+unfolding group
+returns c =
+    let l = c in
+    let e : l.loop-m.m ≡ mask_count = omega arith in
+    rw e at l.loop-m.invariant.2

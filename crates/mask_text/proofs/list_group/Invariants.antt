@@ -1,0 +1,23 @@
+-- `mask_text::list_group` meets its contract: the masks below m that have c ones are listed.
+-- Assumes nothing.
+use mathlib.Core.Path.{◌≡◌, refl, ap, ◌∙◌}
+use mathlib.Core.List.{[], ◌∷◌}
+use borrow.Author.Rules.{rules}
+use Prim.Native.Nat.{ℕ, ◌+◌, ◌-◌, ◌≤◌}
+use native.Mathlib.Omega.{arith}
+use lib.Dec.{eqb}
+use lib.ListN.{length, length-append}
+use Rattle.model.specs.Bytes.{Put}
+use Rattle.model.specs.Limits.{max_window}
+use Rattle.model.specs.Lists.{keep, up_from, ones}
+use Rattle.model.specs.Masks.{mask_count, group}
+use Rattle.words.proofs.Put.{put-none, put_then, put_as}
+use Rattle.mask_text.proofs.Listed.{keep-more, keep-first}
+use Rattle.mask_text.proofs.list_group.Given as goal
+
+abbrev pub invariant-loop-m : goal.invariant-loop-m
+invariant-loop-m l =
+    (l.m ≤ mask_count) × (length l.table ≡ length l.initial.table) × Put l.initial.table l.table l.at (keep (λ k. eqb (ones max_window k) l.c) (up_from 0 l.m)) l.end
+
+abbrev pub decreases-loop-m : goal.decreases-loop-m
+decreases-loop-m l = mask_count - l.m

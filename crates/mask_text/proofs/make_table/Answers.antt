@@ -1,0 +1,45 @@
+-- `mask_text::make_table` meets its contract: the groups of fewer than c ones are listed.
+-- Assumes nothing.
+use mathlib.Core.Path.{◌≡◌, sym, ap, ◌∙◌}
+use borrow.Author.Rules.{rules}
+use Prim.Native.Nat.{ℕ, suc, ◌+◌, ◌-◌, ◌≤◌}
+use native.Mathlib.Numerals.{add-one}
+use native.Mathlib.Omega.{arith}
+use lib.ListN.{length, replicate, length-replicate}
+use Rattle.model.specs.Bytes.{overwrite, Put}
+use Rattle.model.specs.Limits.{max_window}
+use Rattle.model.specs.Masks.{mask_count, group, groups_below, group_start, mask_table}
+use Rattle.masks.proofs.Groups.{groups_below-suc, group_start-suc, group_start-le, length-table}
+use Rattle.words.proofs.Memory.{overwrite-all}
+use Rattle.words.proofs.Put.{put-none, put_then, put_as}
+use Rattle.mask_text.proofs.make_table.Goals as goal
+
+-- the next group has room
+room : (c : ℕ) → c ≤ max_window → length (groups_below c) + length (group c) ≤ mask_count
+unfolding group_start
+room c h = omega (arith, group_start-suc c, group_start-le c h)
+
+pub loop-c-init : goal.loop-c-init
+unfolding groups_below
+loop-c-init c = (omega arith, length-replicate {A = ℕ} mask_count 0, put-none _ _)
+
+pub list_group-end-requires : goal.list_group-end-requires
+list_group-end-requires c =
+    let l = c in
+    omega (arith, l.loop-c.invariant.1, l.loop-c.invariant.2.next, room l.loop-c.c (omega arith))
+
+pub loop-c-preserved : goal.loop-c-preserved
+loop-c-preserved c =
+    let w = c in
+    let l = w in
+    let more = w.list_group-end.ensures in
+    let fits = room l.loop-c.c (omega arith) in
+    (omega arith, w.list_group-end.auto.0 ∙ l.loop-c.invariant.1, put_as (sym (groups_below-suc l.loop-c.c) ∙ ap groups_below (sym (add-one l.loop-c.c))) (put_then l.loop-c.invariant.2 more (omega (arith, fits, more.next, l.loop-c.invariant.2.next, length-replicate {A = ℕ} mask_count 0))))
+
+pub returns : goal.returns
+unfolding mask_table
+returns c =
+    let l = c in
+    let e : l.loop-c.c ≡ suc max_window = omega arith in
+    l.loop-c.invariant.2.bytes ∙ ap (λ (k : ℕ). overwrite (replicate mask_count 0) 0 (groups_below k)) e
+    ∙ overwrite-all (replicate mask_count 0) mask_table (length-table ∙ sym (length-replicate {A = ℕ} mask_count 0))

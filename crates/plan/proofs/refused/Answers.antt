@@ -1,0 +1,13 @@
+-- `plan::refused` meets its contract: the plan is the one before the first command.
+-- Assumes nothing.
+use mathlib.Core.Path.{◌∙◌}
+use borrow.Author.Rules.{rules}
+use Rattle.plan.specs.declared.Outcome.TheVariants.{Faulty}
+use Rattle.plan.specs.View.{answered}
+use Rattle.plan.proofs.refused.Goals as goal
+
+pub returns : goal.returns
+returns c =
+    let t = c in
+    let r = t in
+    c.answer.ensures ∙ (λ i. answered (Faulty r.args.fault) (r.nothing_read.ensures i) (t.empty_table.ensures i))

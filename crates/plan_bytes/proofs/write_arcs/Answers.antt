@@ -1,0 +1,44 @@
+-- `plan_bytes::write_arcs` meets its contract: the arcs of the pairs before k are written.
+-- Assumes nothing.
+use mathlib.Core.Path.{◌≡◌, refl, ◌∙◌}
+use Prim.Native.Nat.{◌+◌, ◌-◌, ◌*◌, ◌≤◌}
+use native.Mathlib.Omega.{arith}
+use lib.ListN.{length, get_or}
+use Rattle.model.specs.Lists.{flat_map}
+use Rattle.model.specs.PlanBytes.{arc_bytes}
+use Rattle.plan.specs.View.{pair_count, arcs_below, arcs_in}
+use Rattle.plan_bytes.specs.Sizes.{arc_size}
+use Rattle.model.specs.Bytes.{Put}
+use Rattle.words.proofs.Put.{put-none}
+use Rattle.plan_bytes.proofs.Pieces.{pair_length, arcs-more}
+use borrow.Author.Rules.{rules}
+use Rattle.plan_bytes.proofs.write_arcs.Goals as goal
+
+pub loop-k-init : goal.loop-k-init
+loop-k-init c = (omega arith, omega arith, refl, put-none _ _)
+
+pub bounds-next-k : goal.bounds-next-k
+bounds-next-k c = omega arith
+
+pub write_pair-end-requires : goal.write_pair-end-requires
+write_pair-end-requires c = (omega arith, omega arith)
+
+pub loop-k-preserved : goal.loop-k-preserved
+loop-k-preserved c =
+    let w = c in
+    let l = w in
+    let next = l.args.next.now in
+    let more = w.write_pair-end.ensures in
+    let fits : w.write_pair-end.result ≤ l.args.at + arc_size * (l.loop-k.k + 1) =
+    omega (arith, l.loop-k.invariant.1, more.next, pair_length l.loop-k.k (get_or next l.loop-k.k 0)) in
+    (omega arith, fits, w.write_pair-end.auto.0 ∙ l.loop-k.invariant.2, arcs-more next l.loop-k.k l.loop-k.invariant.3 more (omega arith))
+
+pub shape_of-out : goal.shape_of-out
+shape_of-out c = c.loop-k.invariant.2
+
+pub returns : goal.returns
+unfolding arcs_in
+returns c =
+    let l = c in
+    let e : l.loop-k.k ≡ pair_count = omega arith in
+    (rw e at l.loop-k.invariant.3, omega arith)

@@ -1,0 +1,47 @@
+-- `plan_bytes::write_locks` meets its contract: the locks of the tasks before i are written.
+-- Assumes nothing.
+use mathlib.Core.Path.{◌≡◌, refl, ◌∙◌}
+use Prim.Native.Nat.{◌-◌, ◌≤◌}
+use native.Mathlib.Omega.{arith}
+use lib.ListN.{length}
+use Rattle.model.specs.Bytes.{Put}
+use Rattle.model.specs.PlanBytes.{lock_bytes}
+use Rattle.plan.specs.View.{tasks_of}
+use Rattle.words.proofs.Put.{put-none}
+use Rattle.plan_bytes.proofs.Pieces.{lock-fits, locks-more}
+use borrow.Author.Rules.{rules}
+use Rattle.plan_bytes.proofs.write_locks.Goals as goal
+
+pub loop-i-init : goal.loop-i-init
+loop-i-init c = (omega arith, refl, put-none _ _)
+
+pub offset_bounds-tasks-i : goal.offset_bounds-tasks-i
+offset_bounds-tasks-i c = omega arith
+
+pub bounds-tasks-i : goal.bounds-tasks-i
+bounds-tasks-i c = omega arith
+
+pub write_lock-end-requires : goal.write_lock-end-requires
+write_lock-end-requires c =
+    let l = c in
+    let s = l in
+    (omega arith, omega (arith, s.requires.1, l.loop-i.invariant.1, l.loop-i.invariant.2.next, lock-fits s.args.t3 s.args.count l.loop-i.i (omega arith) (omega arith)))
+
+pub loop-i-preserved : goal.loop-i-preserved
+loop-i-preserved c =
+    let w = c in
+    let l = w in
+    let s = l in
+    let a = s.args in
+    let more = w.write_lock-end.ensures in
+    let fits = lock-fits a.t3 a.count l.loop-i.i (omega arith) (omega arith) in
+    (omega arith, w.write_lock-end.auto.0 ∙ l.loop-i.invariant.1, locks-more a.t3 l.loop-i.i (omega arith) l.loop-i.invariant.2 more (omega (arith, fits, s.requires.1, more.next, l.loop-i.invariant.2.next)))
+
+pub shape_of-out : goal.shape_of-out
+shape_of-out c = c.loop-i.invariant.1
+
+pub returns : goal.returns
+returns c =
+    let l = c in
+    let e : l.loop-i.i ≡ l.args.count = omega arith in
+    rw e at l.loop-i.invariant.2

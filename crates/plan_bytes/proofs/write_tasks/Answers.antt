@@ -1,0 +1,60 @@
+-- `plan_bytes::write_tasks` meets its contract: the tasks before i are written.
+-- Assumes nothing.
+use mathlib.Core.Path.{◌≡◌, refl, ap, ◌∙◌}
+use Prim.Native.Nat.{ℕ, ◌+◌, ◌-◌, ◌*◌, ◌≤◌, ◌<◌}
+use native.Mathlib.Nat.{mul-suc, mul-le-mul_left}
+use native.Mathlib.Numerals.{add-one}
+use native.Mathlib.Omega.{arith}
+use lib.ListN.{length, get_or}
+use Rattle.model.specs.Lists.{flat_map}
+use Rattle.model.specs.PlanBytes.{task_bytes}
+use Rattle.plan.specs.View.{empty_task, task_view, tasks_of}
+use Rattle.model.specs.Edition.{task_width}
+use Rattle.node.specs.Edition.{edition_of}
+use Rattle.model.specs.Bytes.{Put}
+use Rattle.words.proofs.Put.{put-none}
+use Rattle.plan_bytes.proofs.Pieces.{task-length, tasks-more}
+use borrow.Author.Rules.{rules}
+use Rattle.plan_bytes.proofs.write_tasks.Goals as goal
+
+-- one more of so many pieces
+room : (w i n : ℕ) → i < n → w * i + w ≤ w * n
+room w i n h = omega (arith, mul-suc w i, mul-le-mul_left w h)
+
+pub loop-i-init : goal.loop-i-init
+loop-i-init c = (omega arith, omega arith, refl, put-none _ 0)
+
+pub offset_bounds-tasks-i : goal.offset_bounds-tasks-i
+offset_bounds-tasks-i c = omega arith
+
+pub bounds-tasks-i : goal.bounds-tasks-i
+bounds-tasks-i c = omega arith
+
+pub write_task-end-requires : goal.write_task-end-requires
+write_task-end-requires c =
+    let l = c in
+    let s = l in
+    (s.requires.2, omega (arith, s.requires.1, l.loop-i.invariant.1, l.loop-i.invariant.2, room (task_width (edition_of s.args.edition)) l.loop-i.i s.args.count (omega arith)))
+
+pub loop-i-preserved : goal.loop-i-preserved
+loop-i-preserved c =
+    let w = c in
+    let l = w in
+    let s = l in
+    let a = s.args in
+    let e = edition_of a.edition in
+    let t = get_or a.t2 l.loop-i.i empty_task in
+    let more = w.write_task-end.ensures in
+    let fits : w.write_task-end.result ≤ task_width e * (l.loop-i.i + 1) =
+    omega (arith, l.loop-i.invariant.1, more.next, task-length e (task_view t), mul-suc (task_width e) l.loop-i.i, ap (λ (k : ℕ). task_width e * k) (add-one l.loop-i.i)) in
+    let below : task_width e * (l.loop-i.i + 1) ≤ task_width e * a.count = mul-le-mul_left (task_width e) (omega arith) in
+    (omega arith, fits, w.write_task-end.auto.0 ∙ l.loop-i.invariant.2, tasks-more e a.t2 l.loop-i.i (omega arith) l.loop-i.invariant.3 more (omega (arith, fits, below, s.requires.1)))
+
+pub shape_of-out : goal.shape_of-out
+shape_of-out c = c.loop-i.invariant.2
+
+pub returns : goal.returns
+returns c =
+    let l = c in
+    let e : l.loop-i.i ≡ l.args.count = omega arith in
+    (rw e at l.loop-i.invariant.3, rw e at l.loop-i.invariant.1)

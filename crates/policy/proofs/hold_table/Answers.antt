@@ -1,0 +1,39 @@
+-- `policy::hold_table` meets its contract: the loop fills the table from the front.
+-- Assumes nothing.
+use mathlib.Core.Path.{◌≡◌, refl, sym}
+use mathlib.Core.List.{map}
+use Prim.Native.Nat.{◌-◌, ◌≤◌}
+use Rattle.model.specs.Bytes.{overwrite}
+use Rattle.model.specs.Lists.{up_from}
+use Rattle.words.proofs.Memory.{overwrite-none}
+use Rattle.plan.specs.View.{tasks_of}
+use Rattle.policy.specs.View.{slot_cells, hold_in}
+use Rattle.words.proofs.Tables.{written-more, written_all}
+use native.Mathlib.Omega.{arith}
+use borrow.Author.Rules.{rules}
+use Rattle.policy.proofs.hold_table.Goals as goal
+
+pub loop-k-init : goal.loop-k-init
+loop-k-init c = (omega arith, sym (overwrite-none _ 0))
+
+pub bounds-hold-k : goal.bounds-hold-k
+bounds-hold-k c = omega arith
+
+pub overflow_add-k : goal.overflow_add-k
+overflow_add-k c = omega arith
+
+pub loop-k-smaller : goal.loop-k-smaller
+loop-k-smaller c = omega arith
+
+pub loop-k-preserved : goal.loop-k-preserved
+loop-k-preserved c =
+    let head = c in
+    let k = head.loop-k.k in (
+      omega arith,
+      written-more (hold_in (tasks_of head.args.tasks head.args.count)) 0 _ 0 k k k (omega arith) (omega arith) c.loop-k-test.true c.hold_in.ensures head.loop-k.invariant.1,
+    )
+
+pub returns : goal.returns
+returns c =
+    let head = c in
+    written_all (hold_in (tasks_of head.args.tasks head.args.count)) 0 _ head.loop-k.k slot_cells (omega arith) refl head.loop-k.invariant.1

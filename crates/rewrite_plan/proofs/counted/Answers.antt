@@ -1,0 +1,12 @@
+-- `rewrite_plan::counted` meets its contract: both arguments are numbers, or one is none.
+-- Assumes nothing.
+use mathlib.Core.Path.{sym, ◌∙◌}
+use Rattle.rewrite_plan.specs.Commands.{counted_is}
+use borrow.Author.Rules.{rules}
+use Rattle.rewrite_plan.proofs.counted.Goals as goal
+
+pub returns : goal.returns
+returns c =
+    let g = c in
+    let n = g in
+    c.spacing.ensures ∙ sym (λ i. counted_is n.args.word (n.in-Of.is i) (g.in-Of-slots.is i))

@@ -1,0 +1,14 @@
+-- `rewrite_plan::write_combined` meets its contract: the call's answer, finished.
+-- Assumes nothing.
+use Rattle.model.specs.PlanBytes.{plan_bytes}
+use Rattle.answer_text.proofs.Finished.{finished, told_printable}
+use borrow.Author.Rules.{rules}
+use Rattle.rewrite_plan.proofs.write_combined.Goals as goal
+
+pub print-requires : goal.print-requires
+print-requires c = told_printable plan_bytes _ _ _ _ (search rules) c.rewrite-answer.ensures.told
+
+pub returns : goal.returns
+returns c =
+    let p = c in
+    finished plan_bytes _ _ _ _ _ _ p.rewrite-answer.ensures.told p.print.ensures

@@ -1,0 +1,32 @@
+-- `text::put_refusal` meets its contract: a word, a number and a line feed, one after the other.
+-- Assumes nothing.
+use borrow.Author.Rules.{rules}
+use native.Mathlib.Omega.{arith}
+use Rattle.model.specs.Text.{refused_line}
+use Rattle.text.proofs.Decimal.{refused-length}
+use Rattle.words.proofs.Put.{put_join}
+use Rattle.text.proofs.put_refusal.Goals as goal
+
+pub put_bytes-word-requires : goal.put_bytes-word-requires
+put_bytes-word-requires c = omega (arith, c.requires, refused-length c.args.n)
+
+pub put_number-number-requires : goal.put_number-number-requires
+put_number-number-requires c =
+    let w = c in
+    omega (arith, w.put_bytes-word.ensures.next, refused-length w.args.n)
+
+pub put_bytes-requires : goal.put_bytes-requires
+put_bytes-requires c =
+    let n = c in
+    let w = n in
+    omega (arith, n.put_number-number.ensures.next, w.put_bytes-word.ensures.next, refused-length w.args.n)
+
+pub returns : goal.returns
+unfolding refused_line
+returns c =
+    let b = c in
+    let n = b in
+    let w = n in
+    let s = w in
+    let number = put_join _ _ _ 0 _ _ _ _ (omega (arith, s.requires, refused-length s.args.n)) w.put_bytes-word.ensures n.put_number-number.ensures in
+    put_join _ _ _ 0 _ _ _ _ (omega (arith, s.requires, refused-length s.args.n)) number b.put_bytes.ensures

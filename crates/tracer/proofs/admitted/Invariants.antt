@@ -1,0 +1,23 @@
+-- `tracer::admitted` meets its contract: before each label the plan admits the run exactly when it admits the rest from here.
+-- Assumes nothing.
+use mathlib.Core.Path.{◌≡◌, refl, sym, ap, ◌∙◌}
+use mathlib.Core.Bool.{false}
+use mathlib.Core.List.{List, ◌∷◌}
+use mathlib.Core.Option.{Option, none, some}
+use borrow.Author.Rules.{rules}
+use Prim.Native.Nat.{ℕ, suc, ◌-◌, ◌≤◌, ◌<◌}
+use native.Mathlib.Numerals.{add-one}
+use native.Mathlib.Omega.{arith}
+use lib.ListN.{length, get_or, drop, drop_of_length-le}
+use lib.Seq.{drop-cons}
+use Rattle.model.specs.Limits.{max_states}
+use Rattle.model.specs.Plan.{Plan, next_in}
+use Rattle.model.specs.Schedule.{admits, admits_from}
+use Rattle.plan.specs.View.{arcs_in, next_of, StatesFit}
+use Rattle.tracer.proofs.admitted.Given as goal
+
+abbrev pub invariant-loop-i : goal.invariant-loop-i
+invariant-loop-i l = Reached l.next l.labels l.state l.i
+
+abbrev pub decreases-loop-i : goal.decreases-loop-i
+decreases-loop-i l = length l.labels - l.i

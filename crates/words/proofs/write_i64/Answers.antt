@@ -1,0 +1,13 @@
+-- `words::write_i64` meets its contract: what is written is the two's complement that `unsigned` gives. Assumes nothing.
+use mir.Facts.{to_z-of_z}
+use mathlib.Core.Path.{ap, ◌∙◌}
+use Prim.Native.Nat.{ℕ}
+use Rattle.model.specs.Bytes.{bytes, complement, overwrite}
+use borrow.Author.Rules.{rules}
+use Rattle.words.proofs.write_i64.Goals as goal
+
+pub returns : goal.returns
+returns c =
+    let start = c in
+    c.write_u64.ensures
+    ∙ ap (λ (n : ℕ). overwrite start.args.s.now start.args.at (bytes 8 n)) (c.unsigned.ensures ∙ ap complement (to_z-of_z start.ranges.v))
