@@ -173,14 +173,25 @@ module _ {P : Plan} where
   along-first here = refl
   along-first (go b a) = refl
 
+  -- no step has no gain
+  along-none : {u v : ℕ} {es : List Edge} → Along P u [] v es → (kept [] ≡ kept es) × (ideal [] ≡ ideal es)
+  along-none here = (refl, refl)
+
+  -- a step, and those after it
+  along-cons : {u v : ℕ} {s : Taken} {ss : List Taken} {es : List Edge} → Along P u (s ∷ ss) v es →
+      (x : ℕ) × (e : Edge) × (fs : List Edge) × Best P u s.label x e × Along P x ss v fs × (es ≡ e ∷ fs)
+  along-cons (go {x = x} {e = e} {es = fs} b a) = (x, e, fs, b, a, refl)
+
   -- the same steps have the same gains
   pub along-same : {u v : ℕ} {ss : List Taken} {es fs : List Edge} → Along P u ss v es → Along P u ss v fs →
       (kept es ≡ kept fs) × (ideal es ≡ ideal fs)
-  along-same here here = (refl, refl)
-  along-same {v = v} (go {u = u} {l = l} {ss = ss} b a) (go {e = f} {es = fs} c d) =
-      let at = along-first d ∙ sym (along-first a) in
-      let one = best-same P b (subst (λ (x : ℕ). Best P u l x f) at c) in
-      let rest = along-same a (subst (λ (x : ℕ). Along P x ss v fs) at d) in
+  along-same here d = along-none d
+  along-same {v = v} {fs = fs} (go {u = u} {l = l} {ss = ss} {e = e} {es = es} b a) d =
+      let r = along-cons d in
+      let at = along-first r.4 ∙ sym (along-first a) in
+      let one = best-same P b (subst (λ (x : ℕ). Best P u l x r.1) at r.3) in
+      let rest = along-same a (subst (λ (x : ℕ). Along P x ss v r.2) at r.4) in
+      subst (λ (l : List Edge). (kept (e ∷ es) ≡ kept l) × (ideal (e ∷ es) ≡ ideal l)) (sym r.5)
       (omega (arith, one.0, rest.0), omega (arith, one.1, rest.1))
 
   -- a path is such steps, at the cost of their edges

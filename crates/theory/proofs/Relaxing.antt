@@ -151,6 +151,7 @@ module _ {A : Type 0} (f : Distances → A → Distances) (lower : (ds : Distanc
   pub fold-reached : (l : List A) (ds : Distances) (a : A) (v : ℕ) (z : Option ℤ) → Memᴰ a l →
       ((es : Distances) → length es ≡ length ds → Below es ds → AtMost (distance_at (f es a) v) z) →
       ((es : Distances) (b : A) → length (f es b) ≡ length es) → AtMost (distance_at (foldl f ds l) v) z
+  fold-reached [] ds a v z m reach size = elim m [ ]
   fold-reached (b ∷ l) ds a v z (Memᴰ.head p) reach size =
       at_most_trans (distance_at (foldl f (f ds b) l) v) (distance_at (f ds b) v) z ((fold-below l (f ds b)).at v)
       (subst (λ c. AtMost (distance_at (f ds c) v) z) p (reach ds refl (below_refl ds)))

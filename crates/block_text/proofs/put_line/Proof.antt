@@ -44,7 +44,7 @@ module _ (l : tie.At-loop-i invariant-loop decreases-loop) where
   room : l.loop-i.end + length (line_from bytes i) ≤ length l.loop-i.out
   room =
       let f = l.before.before.before in
-      omega (arith, entry.pre, both entry, f.put_field-end.ensures.next, f.put_field-end.kept.0, l.loop-i.inv.1.next, l.loop-i.inv.1.size)
+      omega (arith, entry.pre, both entry, f.put_field-end.ensures.next, f.put_field-end.kept.0, l.loop-i.invariant.1.next, l.loop-i.invariant.1.size)
 
   more : i + 1 < 16 → line_from bytes i ≡ field (get_or bytes i 0) ++ line_from bytes (i + 1)
   more h = line-next (get_or bytes i 0) bytes (i + 1) (omega (arith, size entry))

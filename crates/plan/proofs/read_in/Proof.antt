@@ -109,7 +109,7 @@ enum_told c = search rules
 -- no fault was found
 passed : (c : tie.In_default invariant-loop decreases-loop) →
     0 ≡ fault_here (edition (head c.before)) (bytes (head c.before)) (head c.before).loop-at.next (head c.before).loop-at.r
-    (head c.before).loop-at.at (head c.before).loop-at.inv (more c.before)
+    (head c.before).loop-at.at (head c.before).loop-at.invariant (more c.before)
 passed c = sym (ap check_number c.in_default.is) ∙ found c.before
 
 with-next-requires : tie.Need-with_next-r-requires invariant-loop decreases-loop
