@@ -49,7 +49,7 @@ loop-i-init c =
     let parts = start.args.parts in
     let zs = potentials_in bs parts.count in
     let some = (placed long_reads bs (certificate_of long_reads bs parts) start.requires.0.read).some in
-    let fits : SFits w64 c.potential-first.result = record { sfits = c.potential-first.type-inv } in
+    let fits : SFits w64 c.potential-first.result = record { sfits = c.potential-first.type_inv } in
     let first = to_z-of_z fits ∙ c.potential-first.ensures (certificate_of long_reads bs parts) start.requires.0.read in
     (omega arith, subst (Lowest zs 0) (sym first) (lowest_start zs start.requires.1 some))
 
@@ -82,9 +82,9 @@ loop-i-preserved c =
     let zs = potentials_in bs parts.count in
     let size = items-length (potential_in bs) head_size potential_size parts.count in
     let l = turn.loop-i in
-    let fits : SFits w64 c.potential.result = record { sfits = c.potential.type-inv } in
+    let fits : SFits w64 c.potential.result = record { sfits = c.potential.type_inv } in
     let z = to_z-of_z fits ∙ c.potential.ensures (certificate_of long_reads bs parts) start.requires.0.read in
-    let found : SFits w64 c.smaller-least.result = record { sfits = c.smaller-least.type-inv } in
+    let found : SFits w64 c.smaller-least.result = record { sfits = c.smaller-least.type_inv } in
     let m = to_z-of_z found ∙ c.smaller-least.ensures ∙ ap (λ (y : ℤ). cond (le_z y (to_z w64 l.least)) y (to_z w64 l.least)) z in
     (omega arith, subst (Lowest zs (l.i + 1)) (sym m) (lowest-next zs start.requires.1 l.i (omega (arith, size)) (to_z w64 l.least) l.invariant.1))
 
@@ -95,7 +95,7 @@ overflow_sub-result c =
     let start = call in
     let bs = start.args.s.now in
     let d =
-    difference bs start.args.parts start.requires.0 start.requires.1 call.potential-first.result record { sfits = call.potential-first.type-inv }
+    difference bs start.args.parts start.requires.0 start.requires.1 call.potential-first.result record { sfits = call.potential-first.type_inv }
     (call.potential-first.ensures (certificate_of long_reads bs start.args.parts) start.requires.0.read) turn.loop-i.least turn.loop-i.i turn.loop-i.invariant.1 in
     subst⁻¹ (SFits w64) d.1 (record { sfits = omega (arith, d.2) })
 
@@ -106,7 +106,7 @@ overflow_cast-result c =
     let start = call in
     let bs = start.args.s.now in
     let d =
-    difference bs start.args.parts start.requires.0 start.requires.1 call.potential-first.result record { sfits = call.potential-first.type-inv }
+    difference bs start.args.parts start.requires.0 start.requires.1 call.potential-first.result record { sfits = call.potential-first.type_inv }
     (call.potential-first.ensures (certificate_of long_reads bs start.args.parts) start.requires.0.read) turn.loop-i.least turn.loop-i.i turn.loop-i.invariant.1 in
     subst⁻¹ (λ (z : ℤ). T (non_neg z) × Fits w64 (nat_abs z)) (ap (λ (z : ℤ). to_z w64 (of_z w64 z)) d.1 ∙ to_z_pos w64 {n = d.0} (omega (arith, d.2))) (tt, record { fits = omega (arith, d.2) })
 
@@ -117,7 +117,7 @@ returns c =
     let start = call in
     let bs = start.args.s.now in
     let d =
-    difference bs start.args.parts start.requires.0 start.requires.1 call.potential-first.result record { sfits = call.potential-first.type-inv }
+    difference bs start.args.parts start.requires.0 start.requires.1 call.potential-first.result record { sfits = call.potential-first.type_inv }
     (call.potential-first.ensures (certificate_of long_reads bs start.args.parts) start.requires.0.read) turn.loop-i.least turn.loop-i.i turn.loop-i.invariant.1 in
     ap nat_abs (ap (λ (z : ℤ). to_z w64 (of_z w64 z)) d.1 ∙ to_z_pos w64 {n = d.0} (omega (arith, d.2))) ∙ d.3
     ∙ lowest-end (potentials_in bs start.args.parts.count) start.requires.1 turn.loop-i.i

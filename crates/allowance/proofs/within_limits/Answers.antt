@@ -43,11 +43,11 @@ returns-then-not-within_limit c =
     let i = turn.loop-i.i in
     let zs = potentials_in bs parts.count in
     let size = items-length (potential_in bs) head_size potential_size parts.count in
-    let fits : SFits w64 c.potential.result = record { sfits = c.potential.type-inv } in
+    let fits : SFits w64 c.potential.result = record { sfits = c.potential.type_inv } in
     let z = to_z-of_z fits ∙ c.potential.ensures (certificate_of long_reads bs parts) start.requires.read in
     let tested = c.within_limit.ensures ∙ ap within_limit z in
     let here = all_from within_limit zs (pos 0) i (omega (arith, size)) in
-    sym (turn.loop-i.invariant.1 ∙ here ∙ ap (λ (b : Bool). b && all within_limit (drop (i + 1) zs)) (sym tested ∙ not-true _ c.if-not-within_limit.true))
+    sym (turn.loop-i.invariant.1 ∙ here ∙ ap (λ (b : Bool). b && all within_limit (drop (i + 1) zs)) (sym tested ∙ c.if-not-within_limit.true))
 
 pub overflow_add-i : goal.overflow_add-i
 overflow_add-i c = omega arith
@@ -64,11 +64,11 @@ loop-i-preserved c =
     let i = turn.loop-i.i in
     let zs = potentials_in bs parts.count in
     let size = items-length (potential_in bs) head_size potential_size parts.count in
-    let fits : SFits w64 c.potential.result = record { sfits = c.potential.type-inv } in
+    let fits : SFits w64 c.potential.result = record { sfits = c.potential.type_inv } in
     let z = to_z-of_z fits ∙ c.potential.ensures (certificate_of long_reads bs parts) start.requires.read in
     let tested = c.within_limit.ensures ∙ ap within_limit z in
     let here = all_from within_limit zs (pos 0) i (omega (arith, size)) in
-    (omega arith, turn.loop-i.invariant.1 ∙ here ∙ ap (λ (b : Bool). b && all within_limit (drop (i + 1) zs)) (sym tested ∙ not-false _ c.if-not-within_limit.false))
+    (omega arith, turn.loop-i.invariant.1 ∙ here ∙ ap (λ (b : Bool). b && all within_limit (drop (i + 1) zs)) (sym tested ∙ c.if-not-within_limit.false))
 
 pub returns : goal.returns
 returns c =

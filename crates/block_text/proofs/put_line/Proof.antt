@@ -21,14 +21,14 @@ decreases-loop out₀ at refusal bytes end₀ i₀ out end i = 16 - i
 
 -- there are sixteen bytes, so the line is the refusal and the bytes
 module _ (s : tie.Start invariant-loop decreases-loop) where
-  size : length s.args.t4 ≡ 16
+  size : length s.args.bytes ≡ 16
   size = omega (arith, s.well_formed)
 
-  first : numbers_line s.args.refusal s.args.t4 ≡ field s.args.refusal ++ line_from s.args.t4 0
-  first = line-next s.args.refusal s.args.t4 0 (omega (arith, size))
+  first : numbers_line s.args.refusal s.args.bytes ≡ field s.args.refusal ++ line_from s.args.bytes 0
+  first = line-next s.args.refusal s.args.bytes 0 (omega (arith, size))
 
-  both : length (numbers_line s.args.refusal s.args.t4) ≡ length (field s.args.refusal) + length (line_from s.args.t4 0)
-  both = ap length first ∙ length-append (field s.args.refusal) (line_from s.args.t4 0)
+  both : length (numbers_line s.args.refusal s.args.bytes) ≡ length (field s.args.refusal) + length (line_from s.args.bytes 0)
+  both = ap length first ∙ length-append (field s.args.refusal) (line_from s.args.bytes 0)
 
 -- what is left in the loop
 module _ (l : tie.At-loop-i invariant-loop decreases-loop) where
@@ -36,7 +36,7 @@ module _ (l : tie.At-loop-i invariant-loop decreases-loop) where
   entry = l.before.before.before.before.before.before
 
   abbrev bytes : List ℕ
-  bytes = entry.args.t4
+  bytes = entry.args.bytes
 
   abbrev i : ℕ
   i = l.loop-i.i
@@ -44,7 +44,7 @@ module _ (l : tie.At-loop-i invariant-loop decreases-loop) where
   room : l.loop-i.end + length (line_from bytes i) ≤ length l.loop-i.out
   room =
       let f = l.before.before.before in
-      omega (arith, entry.pre, both entry, f.put_field-end.ensures.next, f.put_field-end.kept.0, l.loop-i.invariant.1.next, l.loop-i.invariant.1.size)
+      omega (arith, entry.pre, both entry, f.put_field-end.ensures.next, f.put_field-end.kept.0, l.loop-i.inv.1.next, l.loop-i.inv.1.size)
 
   more : i + 1 < 16 → line_from bytes i ≡ field (get_or bytes i 0) ++ line_from bytes (i + 1)
   more h = line-next (get_or bytes i 0) bytes (i + 1) (omega (arith, size entry))

@@ -11,10 +11,10 @@ use borrow.Author.Rules.{rules}
 use Rattle.cap.proofs.begin_with.Goals as goal
 
 pub returns-then-not-in_range : goal.returns-then-not-in_range
-returns-then-not-in_range c = λ bs read. begun_unranged bs _ _ _ read (sym c.in_range.ensures ∙ not-true _ c.if-not-in_range.true) _ c.refused.ensures
+returns-then-not-in_range c = λ bs read. begun_unranged bs _ _ _ read (sym c.in_range.ensures ∙ c.if-not-in_range.true) _ c.refused.ensures
 
 pub cap_of-cap-requires : goal.cap_of-cap-requires
-cap_of-cap-requires c = (c.requires, sym c.in_range.ensures ∙ not-false _ c.if-not-in_range.false)
+cap_of-cap-requires c = (c.requires, sym c.in_range.ensures ∙ c.if-not-in_range.false)
 
 pub returns : goal.returns
 returns c =

@@ -17,7 +17,7 @@ pub loop-i-init : goal.loop-i-init
 loop-i-init c = (omega arith, refl, omega arith)
 
 pub overflow_add-work : goal.overflow_add-work
-overflow_add-work c = omega (arith, c.loop-i.invariant, c.new_work.type-inv)
+overflow_add-work c = omega (arith, c.loop-i.invariant, c.new_work.type_inv)
 
 pub loop-i-preserved : goal.loop-i-preserved
 loop-i-preserved c =
@@ -26,7 +26,7 @@ loop-i-preserved c =
     let ts = tasks_of a.tasks a.count in (
       omega arith,
       ap₂ (λ (m n : ℕ). m + n) l.loop-i.invariant.1 c.new_work.ensures ∙ ap (sum (new_work ts a.label)) (sym (add-one l.loop-i.i)),
-      omega (arith, l.loop-i.invariant, c.new_work.type-inv),
+      omega (arith, l.loop-i.invariant, c.new_work.type_inv),
     )
 
 pub returns : goal.returns

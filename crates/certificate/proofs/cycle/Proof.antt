@@ -22,11 +22,11 @@ has-at-requires c κs = search rules
 returns : tie.Need-returns-then-not-has_at
 returns c =
     let a = c.args in
-    ap in_place (cycle_missing (edition_of a.edition) a.s.now a.p a.q a.count a.cursor.at (sym c.has_at.ensures ∙ not-true _ c.if-not-has_at.true))
+    ap in_place (cycle_missing (edition_of a.edition) a.s.now a.p a.q a.count a.cursor.at (sym c.has_at.ensures ∙ c.if-not-has_at.true))
 
 -- the cycle's start stands here
 stands : (c : tie.Else-not-has_at) → has (drop c.args.cursor.at c.args.s.now) node_command cycle_size ≡ true
-stands c = sym c.has_at.ensures ∙ not-false _ c.if-not-has_at.false
+stands c = sym c.has_at.ensures ∙ c.if-not-has_at.false
 
 room : (c : tie.Else-not-has_at) → c.args.cursor.at + cycle_size ≤ length c.args.s.now
 room c = let a = c.before.before.before in has_room a.args.s.now a.args.cursor.at _ _ a.requires.2 (stands c)

@@ -28,9 +28,9 @@ returns-then-s-at-ne1 c = let a = c.args in by_tests a.s.now a.cursor.at _ (ne_e
 pub returns-then-not-has_at : goal.returns-then-not-has_at
 returns-then-not-has_at c =
     let a = c.args in
-    by_tests a.s.now a.cursor.at _ (eq-eqb _ _ c.if-s-at-ne1.false) (sym c.has_at.ensures ∙ not-true _ c.if-not-has_at.true)
+    by_tests a.s.now a.cursor.at _ (eq-eqb _ _ c.if-s-at-ne1.false) (sym c.has_at.ensures ∙ c.if-not-has_at.true)
 
 pub returns : goal.returns
 returns c =
     let a = c.args in
-    by_tests a.s.now a.cursor.at _ (eq-eqb _ _ c.if-s-at-ne1.false) (sym c.has_at.ensures ∙ not-false _ c.if-not-has_at.false)
+    by_tests a.s.now a.cursor.at _ (eq-eqb _ _ c.if-s-at-ne1.false) (sym c.has_at.ensures ∙ c.if-not-has_at.false)

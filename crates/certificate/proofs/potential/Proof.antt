@@ -29,7 +29,7 @@ read-i64-requires c κs = omega (arith, inside c.before)
 returns : tie.Need-returns
 returns c d e =
     let a = c.before.before in
-    to_z-of_z {w = w64} (record { sfits = c.read_i64.type-inv }) ∙ c.read_i64.ensures ∙ potential-read a.args.s.now a.args.i a.requires d e
+    to_z-of_z {w = w64} (record { sfits = c.read_i64.type_inv }) ∙ c.read_i64.ensures ∙ potential-read a.args.s.now a.args.i a.requires d e
 
 pub potential_spec : {M : Type 1} → statement M
 potential_spec =

@@ -37,12 +37,12 @@ returns : tie.Need-returns-then-not-has_at invariant-loop decreases-loop
 unfolding read_potentials
 returns c =
     let l = c.before.before in
-    let gone = sym c.has_at.ensures ∙ not-true _ c.if-not-has_at.true in
+    let gone = sym c.has_at.ensures ∙ c.if-not-has_at.true in
     (tt, reached-fault _ _ _ _ _ _ _ _ l.loop-i.invariant l.loop-i-test.true (potential-fault (bytes l.before) (place l.before) gone))
 
 -- a potential stands here
 stands : (c : tie.Else-not-has_at invariant-loop decreases-loop) → has (drop (place c.before.before.before) (bytes c.before.before.before)) potential_command potential_size ≡ true
-stands c = sym c.has_at.ensures ∙ not-false _ c.if-not-has_at.false
+stands c = sym c.has_at.ensures ∙ c.if-not-has_at.false
 
 room : (c : tie.Else-not-has_at invariant-loop decreases-loop) → place c.before.before.before + potential_size ≤ length (bytes c.before.before.before)
 room c = has_room (bytes c.before.before.before) (place c.before.before.before) _ _ c.loop-i.invariant.inside (stands c)

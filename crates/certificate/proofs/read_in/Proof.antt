@@ -24,11 +24,11 @@ has-at-requires c κs = search rules
 returns : tie.Need-returns-then-not-has_at
 returns c =
     let a = c.args in
-    ap in_place (head_missing (edition_of a.edition) a.s.now (sym c.has_at.ensures ∙ not-true _ c.if-not-has_at.true))
+    ap in_place (head_missing (edition_of a.edition) a.s.now (sym c.has_at.ensures ∙ c.if-not-has_at.true))
 
 -- the head stands here
 stands : (c : tie.Else-not-has_at) → has c.args.s.now head_command head_size ≡ true
-stands c = sym c.has_at.ensures ∙ not-false _ c.if-not-has_at.false
+stands c = sym c.has_at.ensures ∙ c.if-not-has_at.false
 
 room : (c : tie.Else-not-has_at) → head_size ≤ length c.args.s.now
 room c = omega (arith, has_room c.args.s.now 0 _ _ (omega arith) (stands c))

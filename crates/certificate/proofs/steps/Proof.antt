@@ -45,7 +45,7 @@ returns c e z =
     let i = l.loop-i.invariant.1 e z in
     record {
       inside = (i.place, i.inside);
-      read = reached-end _ _ _ _ _ _ _ _ i (step-none e (bytes l) (place l) (sym c.has_at.ensures ∙ not-true _ c.if-not-has_at.true) _);
+      read = reached-end _ _ _ _ _ _ _ _ i (step-none e (bytes l) (place l) (sym c.has_at.ensures ∙ c.if-not-has_at.true) _);
     }
 
 sub-if2 : tie.Need-overflow_sub-s invariant-loop decreases-loop
@@ -53,7 +53,7 @@ sub-if2 c = c.loop-i.invariant.0
 
 -- a step stands here
 stands : (c : tie.Else-not-has_at invariant-loop decreases-loop) → has (drop (place c.before.before.before) (bytes c.before.before.before)) step_command 1 ≡ true
-stands c = sym c.has_at.ensures ∙ not-false _ c.if-not-has_at.false
+stands c = sym c.has_at.ensures ∙ c.if-not-has_at.false
 
 returns-2 : tie.Need-returns-then-s-cursor invariant-loop decreases-loop
 returns-2 c e z =

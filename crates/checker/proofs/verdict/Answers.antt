@@ -43,14 +43,14 @@ tested P r next m bs n parts planned holds read fraction count within =
     }
 
 pub returns-then-not-fraction_ok : goal.returns-then-not-fraction_ok
-returns-then-not-fraction_ok c = let a = c.args in record { result_value = λ P p h. bad_fraction_lem P (certificate_of long_reads a.s.now a.parts) (sym c.fraction_ok.ensures ∙ not-true _ c.if-not-fraction_ok.true); notes_free = only_refl }
+returns-then-not-fraction_ok c = let a = c.args in record { result_value = λ P p h. bad_fraction_lem P (certificate_of long_reads a.s.now a.parts) (sym c.fraction_ok.ensures ∙ c.if-not-fraction_ok.true); notes_free = only_refl }
 
 pub returns-then-parts-n : goal.returns-then-parts-n
 returns-then-parts-n c = let start = c in
     let a = start.args in
     let bs = a.s.now in
     let z = certificate_of long_reads bs a.parts in
-    let fraction = sym c.fraction_ok.ensures ∙ not-false _ c.if-not-fraction_ok.false in
+    let fraction = sym c.fraction_ok.ensures ∙ c.if-not-fraction_ok.false in
     let size = items-length (potential_in bs) head_size potential_size a.parts.count in record { result_value = λ P p h. bad_count_lem P z fraction (λ e. c.if-parts-n.true (sym size ∙ e ∙ held-count (tasks_in a.graph.rules) a.m.now a.graph.n (nodes P) h.nodes)); notes_free = only_refl }
 
 pub returns-then-not-within_limits : goal.returns-then-not-within_limits
@@ -58,11 +58,11 @@ returns-then-not-within_limits c = let start = c in
     let a = start.args in
     let bs = a.s.now in
     let z = certificate_of long_reads bs a.parts in
-    let fraction = sym c.fraction_ok.ensures ∙ not-false _ c.if-not-fraction_ok.false in
+    let fraction = sym c.fraction_ok.ensures ∙ c.if-not-fraction_ok.false in
     let size = items-length (potential_in bs) head_size potential_size a.parts.count in
     let count : a.parts.count ≡ a.graph.n = c.if-parts-n.false in record {
       result_value = λ P p h. bad_limit P z fraction (size ∙ count ∙ sym (held-count (tasks_in a.graph.rules) a.m.now a.graph.n (nodes P) h.nodes))
-          (sym c.within_limits.ensures ∙ not-true _ c.if-not-within_limits.true);
+          (sym c.within_limits.ensures ∙ c.if-not-within_limits.true);
       notes_free = only_refl;
     }
 
@@ -72,10 +72,10 @@ edges_hold-requires c =
     let a = start.args in
     let bs = a.s.now in
     let z = certificate_of long_reads bs a.parts in
-    let fraction = sym c.fraction_ok.ensures ∙ not-false _ c.if-not-fraction_ok.false in
+    let fraction = sym c.fraction_ok.ensures ∙ c.if-not-fraction_ok.false in
     let size = items-length (potential_in bs) head_size potential_size a.parts.count in
     let count : a.parts.count ≡ a.graph.n = c.if-parts-n.false in
-    let within = sym c.within_limits.ensures ∙ not-false _ c.if-not-within_limits.false in
+    let within = sym c.within_limits.ensures ∙ c.if-not-within_limits.false in
     let held = start.requires.1 in (
       start.requires.0,
       record { plan = held.plan; certificate = z; test = tested held.plan a.graph.rules a.next.now a.m.now bs a.graph.n a.parts held.planned held.holds start.requires.2 fraction count within },
@@ -87,10 +87,10 @@ returns-then-not-edges_hold c = let start = c in
     let a = start.args in
     let bs = a.s.now in
     let z = certificate_of long_reads bs a.parts in
-    let fraction = sym c.fraction_ok.ensures ∙ not-false _ c.if-not-fraction_ok.false in
+    let fraction = sym c.fraction_ok.ensures ∙ c.if-not-fraction_ok.false in
     let size = items-length (potential_in bs) head_size potential_size a.parts.count in
     let count : a.parts.count ≡ a.graph.n = c.if-parts-n.false in
-    let within = sym c.within_limits.ensures ∙ not-false _ c.if-not-within_limits.false in
+    let within = sym c.within_limits.ensures ∙ c.if-not-within_limits.false in
     let edges = c.edges_hold.ensures in record {
       result_value = λ P p h. bad_edge P z fraction (size ∙ count ∙ sym (held-count (tasks_in a.graph.rules) a.m.now a.graph.n (nodes P) h.nodes))
           within (sym c.if-not-edges_hold.true ∙ edges.0 P z
@@ -103,10 +103,10 @@ returns-then-not-holds c = let start = c in
     let a = start.args in
     let bs = a.s.now in
     let z = certificate_of long_reads bs a.parts in
-    let fraction = sym c.fraction_ok.ensures ∙ not-false _ c.if-not-fraction_ok.false in
+    let fraction = sym c.fraction_ok.ensures ∙ c.if-not-fraction_ok.false in
     let size = items-length (potential_in bs) head_size potential_size a.parts.count in
     let count : a.parts.count ≡ a.graph.n = c.if-parts-n.false in
-    let within = sym c.within_limits.ensures ∙ not-false _ c.if-not-within_limits.false in
+    let within = sym c.within_limits.ensures ∙ c.if-not-within_limits.false in
     let edges = c.edges_hold.ensures in record {
       result_value = λ P p h. bad_cycle_lem P z fraction (size ∙ count ∙ sym (held-count (tasks_in a.graph.rules) a.m.now a.graph.n (nodes P) h.nodes))
           within (sym c.if-not-edges_hold.false ∙ edges.0 P z
@@ -118,17 +118,17 @@ returns-then-not-holds c = let start = c in
 pub allowance-k-requires : goal.allowance-k-requires
 allowance-k-requires c =
     let start = c in
-    (start.requires.2, sym c.within_limits.ensures ∙ not-false _ c.if-not-within_limits.false)
+    (start.requires.2, sym c.within_limits.ensures ∙ c.if-not-within_limits.false)
 
 pub returns : goal.returns
 returns c = let start = c in
     let a = start.args in
     let bs = a.s.now in
     let z = certificate_of long_reads bs a.parts in
-    let fraction = sym c.fraction_ok.ensures ∙ not-false _ c.if-not-fraction_ok.false in
+    let fraction = sym c.fraction_ok.ensures ∙ c.if-not-fraction_ok.false in
     let size = items-length (potential_in bs) head_size potential_size a.parts.count in
     let count : a.parts.count ≡ a.graph.n = c.if-parts-n.false in
-    let within = sym c.within_limits.ensures ∙ not-false _ c.if-not-within_limits.false in
+    let within = sym c.within_limits.ensures ∙ c.if-not-within_limits.false in
     let edges = c.edges_hold.ensures in record {
       result_value = λ P p h. (λ i. share a.parts.p a.parts.q ((sym count ∙ sym size) i) (c.allowance-k.ensures i))
           ∙ accepted P z fraction (size ∙ count ∙ sym (held-count (tasks_in a.graph.rules) a.m.now a.graph.n (nodes P) h.nodes))

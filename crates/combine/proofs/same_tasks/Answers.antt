@@ -43,7 +43,7 @@ returns-then-not-same_task c =
     let t = c in
     let l = t in
     let s = l in
-    other-task s.args.first s.args.second s.requires.0 s.requires.1 l.if-count-second.false l.loop-i.i (omega arith) (sym t.same_task.ensures ∙ not-true _ c.if-not-same_task.true)
+    other-task s.args.first s.args.second s.requires.0 s.requires.1 l.if-count-second.false l.loop-i.i (omega arith) (sym t.same_task.ensures ∙ c.if-not-same_task.true)
 
 pub overflow_add-i : goal.overflow_add-i
 overflow_add-i c = omega arith
@@ -56,7 +56,7 @@ loop-i-preserved c =
     let t = c in
     let l = t in
     let a = l.args in
-    (omega arith, λ j h. more a.first.tasks a.second.tasks l.loop-i.i l.loop-i.invariant.1 (sym t.same_task.ensures ∙ not-false _ c.if-not-same_task.false) j h (ℕ_discrete j l.loop-i.i))
+    (omega arith, λ j h. more a.first.tasks a.second.tasks l.loop-i.i l.loop-i.invariant.1 (sym t.same_task.ensures ∙ c.if-not-same_task.false) j h (ℕ_discrete j l.loop-i.i))
 
 pub returns : goal.returns
 returns c =

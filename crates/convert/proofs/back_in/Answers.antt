@@ -14,14 +14,14 @@ use borrow.Author.Rules.{rules}
 use Rattle.convert.proofs.back_in.Goals as goal
 
 pub returns-then-not-says_all : goal.returns-then-not-says_all
-returns-then-not-says_all c = not_said c.args.plan _ (rw c.first-first.ensures at (sym c.says_all.ensures ∙ not-true _ c.if-not-says_all.true))
+returns-then-not-says_all c = not_said c.args.plan _ (rw c.first-first.ensures at (sym c.says_all.ensures ∙ c.if-not-says_all.true))
 
 pub write_in-requires : goal.write_in-requires
 write_in-requires c =
     let t = c in
     let first = t.first-first.ensures in
     let s = t in
-    let locks = locks_said (edition_of t.first-first.result) (plan_of s.args.plan).tasks (sym t.says_all.ensures ∙ not-false _ c.if-not-says_all.false) in
+    let locks = locks_said (edition_of t.first-first.result) (plan_of s.args.plan).tasks (sym t.says_all.ensures ∙ c.if-not-says_all.false) in
     (inl (ap (λ (e : Edition). e.value_width) first), s.requires.0, locks, subst (λ (e : Edition). plan_room_in e ≤ length s.args.out.now) (sym first) s.requires.1)
 
 pub returns : goal.returns
@@ -30,4 +30,4 @@ returns c =
     let t = w in
     let first = t.first-first.ensures in
     let put = rw first at w.write_in.ensures in
-    said t.args.plan _ (rw first at (sym t.says_all.ensures ∙ not-false _ w.if-not-says_all.false)) _ _ put.0 put.1
+    said t.args.plan _ (rw first at (sym t.says_all.ensures ∙ w.if-not-says_all.false)) _ _ put.0 put.1

@@ -94,10 +94,10 @@ returns-then-not-same_row c =
     let end = c.row_of-end in
     let tested = c.same_row in
     let same =
-    same_end ts a.m.now a.n start.requires.1.holds.rows a.parts.node below from walked.at named call.follow-walked.ensures.cells (omega (arith, call.follow-walked.type-inv))
+    same_end ts a.m.now a.n start.requires.1.holds.rows a.parts.node below from walked.at named call.follow-walked.ensures.cells (omega (arith, call.follow-walked.type_inv))
     end.result end.ensures tested.result tested.ensures in
     λ P p h. cycle_open P (certificate_of long_reads bs a.parts) recurs (omega (arith, below, held-count ts a.m.now a.n (nodes P) h.nodes)) ts from
-    (ap (node_of ts) named ∙ held-node ts a.m.now a.n (nodes P) h.nodes a.parts.node below) call.follow-walked.result (call.follow-walked.ensures.reached ∙ sym (planned-follow p _ _)) c.if-not-walked.false (same ∙ not-true _ c.if-not-same_row.true)
+    (ap (node_of ts) named ∙ held-node ts a.m.now a.n (nodes P) h.nodes a.parts.node below) call.follow-walked.result (call.follow-walked.ensures.reached ∙ sym (planned-follow p _ _)) c.if-not-walked.false (same ∙ c.if-not-same_row.true)
 
 pub returns : goal.returns
 returns c =
@@ -114,7 +114,7 @@ returns c =
     let end = c.row_of-end in
     let tested = c.same_row in
     let same =
-    same_end ts a.m.now a.n start.requires.1.holds.rows a.parts.node below from walked.at named call.follow-walked.ensures.cells (omega (arith, call.follow-walked.type-inv))
+    same_end ts a.m.now a.n start.requires.1.holds.rows a.parts.node below from walked.at named call.follow-walked.ensures.cells (omega (arith, call.follow-walked.type_inv))
     end.result end.ensures tested.result tested.ensures in
     λ P p h. c.is_tight.ensures ∙ cycle-closed P (certificate_of long_reads bs a.parts) recurs (omega (arith, below, held-count ts a.m.now a.n (nodes P) h.nodes)) ts from
-    (ap (node_of ts) named ∙ held-node ts a.m.now a.n (nodes P) h.nodes a.parts.node below) call.follow-walked.result (call.follow-walked.ensures.reached ∙ sym (planned-follow p _ _)) c.if-not-walked.false (same ∙ not-false _ c.if-not-same_row.false)
+    (ap (node_of ts) named ∙ held-node ts a.m.now a.n (nodes P) h.nodes a.parts.node below) call.follow-walked.result (call.follow-walked.ensures.reached ∙ sym (planned-follow p _ _)) c.if-not-walked.false (same ∙ c.if-not-same_row.false)

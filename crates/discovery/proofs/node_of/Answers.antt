@@ -12,7 +12,7 @@ use Rattle.discovery.proofs.node_of.Goals as goal
 pub returns : goal.returns
 returns c =
     let start = c in
-    let row = start.args.t1 in
+    let row = start.args.row in
     let cells =
     c.copy.ensures ∙ overwrite-all _ (part row 0 cell_count) (part_length row 0 cell_count (omega (arith, start.requires))) in
     λ i. record { cells = cells i; taken = c.read_u16-taken.ensures i; state = get_or row state_at 0 }

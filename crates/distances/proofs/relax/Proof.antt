@@ -27,7 +27,7 @@ tested : (c : tie.After-is_shorter) → c.is_shorter.result ≡ shorter (link_in
 tested c = c.is_shorter.ensures ∙ ap₂ shorter c.link_to.ensures (to_z-of_z {w = w64} c.ranges.z)
 
 returns : tie.Need-returns-then-not-is_shorter
-returns c P prices o = relax_keeps o (sym (tested c.before) ∙ not-true _ c.if-not-is_shorter.true)
+returns c P prices o = relax_keeps o (sym (tested c.before) ∙ c.if-not-is_shorter.true)
 
 way-up-requires : tie.Need-way_up-requires
 way-up-requires c κs = offer_climbs c.requires.offer
@@ -49,7 +49,7 @@ returns-2 c P prices o =
     let a = c.before.before.before.before.before.before.before.before.before.before.before.before.before in
     let m = a.args.m.now in
     let m' = c.put_link.new.m in
-    relax_moves o (sym (tested c.before.before.before.before.before.before.before.before) ∙ not-false _ c.if-not-is_shorter.false)
+    relax_moves o (sym (tested c.before.before.before.before.before.before.before.before) ∙ c.if-not-is_shorter.false)
     (subst (WayUp m a.args.u a.args.v) c.in_default.is c.way_up.ensures) m'
     (subst (λ z. Puts a.args.v (record { distance = z; parent = a.args.u; label = a.args.label; mark = waiting }) m m') (to_z-of_z {w = w64} a.ranges.z)
     c.put_link.ensures)
@@ -73,7 +73,7 @@ same-length-3 c = search rules
 
 returns-3 : tie.Need-returns
 returns-3 c P prices o =
-    relax_closes o (sym (tested c.before.before.before.before.before.before.before.before) ∙ not-false _ c.if-not-is_shorter.false) c.in-Above.j (way c.before.before.before) _ c.put_cycle.ensures
+    relax_closes o (sym (tested c.before.before.before.before.before.before.before.before) ∙ c.if-not-is_shorter.false) c.in-Above.j (way c.before.before.before) _ c.put_cycle.ensures
 
 pub relax_spec : {M : Type 1} → statement M
 relax_spec =

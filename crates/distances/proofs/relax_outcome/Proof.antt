@@ -54,7 +54,7 @@ distance c =
     let s = c.before.before.before.before in
     let a = s.args in
     ap₂ (λ y z. y -ℤ z) (to_z-of_z {w = w64} s.ranges.high)
-    (to_z-of_z {w = w64} (record { sfits = c.times.type-inv }) ∙ c.times.ensures ∙ ap (λ (x : ℕ). pos (a.prices.p * (x - 1))) (score c.before))
+    (to_z-of_z {w = w64} (record { sfits = c.times.type_inv }) ∙ c.times.ensures ∙ ap (λ (x : ℕ). pos (a.prices.p * (x - 1))) (score c.before))
 
 sub-z : tie.Need-overflow_sub-z
 sub-z c =
@@ -64,7 +64,7 @@ sub-z c =
     let g = gain_in a.notes.now a.out.count (pattern_in a.notes.now a.k) in
     subst (SFits w64) (sym (distance c))
     (bound_fits a.high (a.prices.p * g)
-    (charge_small a.prices.p g (omega (arith, o.fits_p)) (omega (arith, score c.before, c.best_score-gain.type-inv)))
+    (charge_small a.prices.p g (omega (arith, o.fits_p)) (omega (arith, score c.before, c.best_score-gain.type_inv)))
     (subst (λ z. nat_abs z ≤ max_high) (sym s.requires.2)
     (high_small ((state_in a.m.now).dist a.out.number) (a.prices.q * a.out.kept) (charge_small a.prices.q a.out.kept o.fits_q (omega (arith, s.well_formed)))
     (distance_small s.requires.0.plan a.prices a.m.now o.search o.within o.few a.out.number o.from o.known))))

@@ -38,7 +38,7 @@ sum : (c : tie.After-struct_told-1 invariant-loop decreases-loop) →
 sum c =
     ap₂ (λ y z. y +ℤ z)
     (to_z-of_z {w = w64} (record { sfits = c.struct_told-1.given.0.1 }) ∙ ap (λ l. l.distance) c.link_to-from.ensures)
-    (to_z-of_z {w = w64} (record { sfits = c.times.type-inv }) ∙ c.times.ensures)
+    (to_z-of_z {w = w64} (record { sfits = c.times.type_inv }) ∙ c.times.ensures)
 
 add-high : tie.Need-overflow_add-high invariant-loop decreases-loop
 add-high c =
@@ -46,7 +46,7 @@ add-high c =
     let a = s.args in
     let o = s.requires.offers in
     subst (SFits w64) (sym (sum c))
-    (high_fits ((state_in a.m.now).dist a.out.number) (a.prices.q * a.out.kept) (charge_small a.prices.q a.out.kept o.fits_q (omega (arith, s.well-formed)))
+    (high_fits ((state_in a.m.now).dist a.out.number) (a.prices.q * a.out.kept) (charge_small a.prices.q a.out.kept o.fits_q (omega (arith, s.well_formed)))
     (distance_small s.requires.plan a.prices a.m.now o.search o.within o.few a.out.number o.from o.known))
 
 loop-holds : tie.Need-loop-k-init invariant-loop decreases-loop

@@ -16,14 +16,14 @@ pub returns-then-not-released : goal.returns-then-not-released
 returns-then-not-released c =
     let a = c.args in
     let t = task_view a.task in
-    let e = not-true a.released c.if-not-released.true in
+    let e = c.if-not-released.true in
     (sym (ap (span_start t) e), sym (ap (span_end t) e))
 
 pub returns-then-task : goal.returns-then-task
 returns-then-task c =
     let start = c in
     let t = task_view start.args.task in
-    let r = not-false start.args.released c.if-not-released.false in
+    let r = c.if-not-released.false in
     let l = c.if-task.true in (
       c.runs_of.ensures.0 ∙ sym (ap (span_start t) r ∙ ap (λ (b : Bool). cond b (2 ^ t.work - 1) (group_start t.work)) l),
       c.runs_of.ensures.1
@@ -36,7 +36,7 @@ pub returns : goal.returns
 returns c =
     let start = c in
     let t = task_view start.args.task in
-    let r = not-false start.args.released c.if-not-released.false in
+    let r = c.if-not-released.false in
     let l = c.if-task.false in (
       c.group_start-at.ensures ∙ sym (ap (span_start t) r ∙ ap (λ (b : Bool). cond b (2 ^ t.work - 1) (group_start t.work)) l),
       c.group_end-end.ensures

@@ -42,17 +42,17 @@ abbrev first : Turn → Start
 first l = l.before.before
 
 room : (l : Turn) → links_end ≤ length l.loop.m
-room l = omega (arith, (first l).pre.0.room, l.loop.invariant.only.long)
+room l = omega (arith, (first l).pre.0.room, l.loop.inv.only.long)
 
 below : (l : Turn) → l.loop.at < max_nodes
-below l = subst (λ (x : ℕ). x < max_nodes) (sym l.loop.invariant.place) (on-way (first l) ((first l).args.j - l.loop.left) (omega arith))
+below l = subst (λ (x : ℕ). x < max_nodes) (sym l.loop.inv.place) (on-way (first l) ((first l).args.j - l.loop.left) (omega arith))
 
 above-below : (l : Turn) → 0 < l.loop.left → (link_in (first l).args.m.now l.loop.at).parent < max_nodes
 above-below l h =
     let up = (state_in (first l).args.m.now).parent in
     let k = (first l).args.j - l.loop.left in
-    subst (λ (x : ℕ). x < max_nodes) (above-next up k (first l).args.u ∙ ap up (sym l.loop.invariant.place))
-    (on-way (first l) (suc k) (omega (arith, l.loop.invariant.most)))
+    subst (λ (x : ℕ). x < max_nodes) (above-next up k (first l).args.u ∙ ap up (sym l.loop.inv.place))
+    (on-way (first l) (suc k) (omega (arith, l.loop.inv.most)))
 
 link-to-requires : tie.Need-link_to-link-requires invariant-loop decreases-loop
 link-to-requires c κs = (below c.before.before, room c.before.before)
@@ -62,7 +62,7 @@ sub-left c = search rules
 
 -- the link that is read stood there before
 same : (l : Turn) → link_in l.loop.m l.loop.at ≡ link_in (first l).args.m.now l.loop.at
-same l = only-links l.loop.invariant.only l.loop.at (below l)
+same l = only-links l.loop.inv.only l.loop.at (below l)
 
 put-step-requires : tie.Need-put_step-requires invariant-loop decreases-loop
 put-step-requires c κs =

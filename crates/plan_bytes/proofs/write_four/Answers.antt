@@ -8,6 +8,6 @@ use Rattle.plan_bytes.proofs.write_four.Goals as goal
 pub returns : goal.returns
 returns c =
     let a = c.args in record {
-      bytes = rw (take_all 4 a.t3 (omega arith)) at c.copy.ensures;
+      bytes = rw (take_all 4 a.bytes (omega arith)) at c.copy.ensures;
       next = omega arith;
     }

@@ -47,7 +47,7 @@ returns-2 : tie.Need-returns
 returns-2 c =
     let s = c.before.before in
     let a = s.args in
-    let locked = not-false _ c.if-not-t.false in
+    let locked = c.if-not-t.false in
     let command = put_byte a.out.now a.at 0x09 (slice-write-out c) in
     let number = put_byte (set a.out.now a.at 0x09) (a.at + 1) (a.i + 1) (slice-write-out-2 c) in
     put_as (sym (lock-bytes (task_view a.t) (a.i + 1) locked)) (put_then command number (omega (arith, room s locked)))

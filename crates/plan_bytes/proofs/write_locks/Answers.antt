@@ -25,7 +25,7 @@ pub write_lock-end-requires : goal.write_lock-end-requires
 write_lock-end-requires c =
     let l = c in
     let s = l in
-    (omega arith, omega (arith, s.requires.1, l.loop-i.invariant.1, l.loop-i.invariant.2.next, lock-fits s.args.t3 s.args.count l.loop-i.i (omega arith) (omega arith)))
+    (omega arith, omega (arith, s.requires.1, l.loop-i.invariant.1, l.loop-i.invariant.2.next, lock-fits s.args.tasks s.args.count l.loop-i.i (omega arith) (omega arith)))
 
 pub loop-i-preserved : goal.loop-i-preserved
 loop-i-preserved c =
@@ -34,8 +34,8 @@ loop-i-preserved c =
     let s = l in
     let a = s.args in
     let more = w.write_lock-end.ensures in
-    let fits = lock-fits a.t3 a.count l.loop-i.i (omega arith) (omega arith) in
-    (omega arith, w.write_lock-end.auto.0 ∙ l.loop-i.invariant.1, locks-more a.t3 l.loop-i.i (omega arith) l.loop-i.invariant.2 more (omega (arith, fits, s.requires.1, more.next, l.loop-i.invariant.2.next)))
+    let fits = lock-fits a.tasks a.count l.loop-i.i (omega arith) (omega arith) in
+    (omega arith, w.write_lock-end.auto.0 ∙ l.loop-i.invariant.1, locks-more a.tasks l.loop-i.i (omega arith) l.loop-i.invariant.2 more (omega (arith, fits, s.requires.1, more.next, l.loop-i.invariant.2.next)))
 
 pub shape_of-out : goal.shape_of-out
 shape_of-out c = c.loop-i.invariant.1

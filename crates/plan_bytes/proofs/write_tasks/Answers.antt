@@ -43,12 +43,12 @@ loop-i-preserved c =
     let s = l in
     let a = s.args in
     let e = edition_of a.edition in
-    let t = get_or a.t2 l.loop-i.i empty_task in
+    let t = get_or a.tasks l.loop-i.i empty_task in
     let more = w.write_task-end.ensures in
     let fits : w.write_task-end.result ≤ task_width e * (l.loop-i.i + 1) =
     omega (arith, l.loop-i.invariant.1, more.next, task-length e (task_view t), mul-suc (task_width e) l.loop-i.i, ap (λ (k : ℕ). task_width e * k) (add-one l.loop-i.i)) in
     let below : task_width e * (l.loop-i.i + 1) ≤ task_width e * a.count = mul-le-mul_left (task_width e) (omega arith) in
-    (omega arith, fits, w.write_task-end.auto.0 ∙ l.loop-i.invariant.2, tasks-more e a.t2 l.loop-i.i (omega arith) l.loop-i.invariant.3 more (omega (arith, fits, below, s.requires.1)))
+    (omega arith, fits, w.write_task-end.auto.0 ∙ l.loop-i.invariant.2, tasks-more e a.tasks l.loop-i.i (omega arith) l.loop-i.invariant.3 more (omega (arith, fits, below, s.requires.1)))
 
 pub shape_of-out : goal.shape_of-out
 shape_of-out c = c.loop-i.invariant.2

@@ -13,7 +13,7 @@ returns-then-has_job c =
     let held = c.held_cells-held.ensures in
     let job = c.has_job.ensures in
     held
-    ∙ sym (ap (λ b. cond b (held_cells a.t1 a.hold.now) a.t1) (sym (job ∙ ap has_job held) ∙ c.if-has_job.true))
+    ∙ sym (ap (λ b. cond b (held_cells a.cells a.hold.now) a.cells) (sym (job ∙ ap has_job held) ∙ c.if-has_job.true))
 
 pub returns : goal.returns
 unfolding runnable_cells
@@ -21,4 +21,4 @@ returns c =
     let a = c.args in
     let held = c.held_cells-held.ensures in
     let job = c.has_job.ensures in
-    sym (ap (λ b. cond b (held_cells a.t1 a.hold.now) a.t1) (sym (job ∙ ap has_job held) ∙ c.if-has_job.false))
+    sym (ap (λ b. cond b (held_cells a.cells a.hold.now) a.cells) (sym (job ∙ ap has_job held) ∙ c.if-has_job.false))

@@ -36,7 +36,7 @@ module _ (d : tie.After-join-ready) where
 chosen : (c : tie.After-choose-at) → Chosen (tasks (joined c)) (key (tasks (joined c)) (start (joined c)).args.rules.policy) (joined c).join-ready.result c.choose-at.result
 chosen c =
     let d = joined c in
-    chosen_cell (tasks d) _ (ruled d).hold d.join.result (entered d).cells (start d).args.rules.policy (ruled d).tasks _ (ruled d).left
+    chosen_cell (tasks d) _ (ruled d).hold d.join-ready.result (entered d).cells (start d).args.rules.policy (ruled d).tasks _ (ruled d).left
     (c.choose-at.ensures ∙ ap (λ pool. first_cell (start d).args.rules.policy pool (start d).args.rules.left) c.runnable-pool.ensures)
 
 first-in : (c : tie.After-choose-at) → c.choose-at.result
@@ -67,9 +67,9 @@ returns : tie.Need-returns-then-at-eq-SLOT_CELLS
 returns c =
     let ch = c.before.before.before.before in
     let d = joined ch in
-    let aged = aged-leaves (tasks d) (ruled d).tasks _ (ruled d).left d.join.result (entered d).cells c.age-older.ensures in
+    let aged = aged-leaves (tasks d) (ruled d).tasks _ (ruled d).left d.join-ready.result (entered d).cells c.age-older.ensures in
     record {
-      rule = λ P same by. slot_idle P (tasks d) _ same by _ _ d.join.result (entered d).jobs ch.choose-at.result c.if-at-eq-SLOT_CELLS.true (chosen ch).choice _ aged.jobs;
+      rule = λ P same by. slot_idle P (tasks d) _ same by _ _ d.join-ready.result (entered d).jobs ch.choose-at.result c.if-at-eq-SLOT_CELLS.true (chosen ch).choice _ aged.jobs;
       cells = aged.cells;
       ran = sym c.if-at-eq-SLOT_CELLS.true ∙ first-in ch;
     }
@@ -95,10 +95,10 @@ returns-2 c =
     let ch = other.before in
     let d = joined ch in
     let run = c.run-after in
-    let ran = worked-leaves (tasks d) d.join.result ch.choose-at.result (entered d).cells (inside other) ((chosen ch).work (inside other)) run.ensures in
+    let ran = worked-leaves (tasks d) d.join-ready.result ch.choose-at.result (entered d).cells (inside other) ((chosen ch).work (inside other)) run.ensures in
     let aged = aged-leaves (tasks d) (ruled d).tasks _ (ruled d).left run.result ran.cells c.age-older-2.ensures in
     record {
-      rule = λ P same by. slot-ran P (tasks d) _ same by _ _ d.join.result (entered d).jobs ch.choose-at.result (inside other) (chosen ch).choice _ _ ran.jobs aged.jobs _ c.gain_in-gain.ensures;
+      rule = λ P same by. slot-ran P (tasks d) _ same by _ _ d.join-ready.result (entered d).jobs ch.choose-at.result (inside other) (chosen ch).choice _ _ ran.jobs aged.jobs _ c.gain_in-gain.ensures;
       cells = aged.cells;
       ran = first-in ch;
     }

@@ -20,9 +20,9 @@ not-given ts n i h =
 pub returns-then-count-i : goal.returns-then-count-i
 returns-then-count-i c =
     let a = c.args in
-    sym (not-given a.t1 a.count (a.k % max_tasks) c.if-count-i.true)
+    sym (not-given a.tasks a.count (a.k % max_tasks) c.if-count-i.true)
 
 pub returns : goal.returns
 returns c =
     let a = c.args in
-    task-given a.t1 a.count (a.k % max_tasks) c.if-count-i.false
+    task-given a.tasks a.count (a.k % max_tasks) c.if-count-i.false

@@ -34,7 +34,7 @@ returns-then-not-node_holds c = let call = c in
       value = λ P d t.
           sym (edges-rows P d a.rules a.next.now a.m.now a.s.now a.claim t
           ∙ all_stops (row_ok P d a.claim a.rules a.m.now) (l.number - 1) a.claim.n (omega (arith, l.invariant.0))
-          (sym (call.node_holds.ensures.value P d t) ∙ not-true call.node_holds.result c.if-not-node_holds.true));
+          (sym (call.node_holds.ensures.value P d t) ∙ c.if-not-node_holds.true));
       notes_free = only_trans l.invariant.4 call.node_holds.ensures.notes_free;
     }
 
@@ -58,7 +58,7 @@ loop-number-preserved c =
       λ P d t.
           subst (λ (n : ℕ). all (row_ok P d a.claim a.rules a.m.now) (up_from 0 n) ≡ true) more
           (all-next (row_ok P d a.claim a.rules a.m.now) (l.number - 1) (l.invariant.3 P d t)
-          (sym (call.node_holds.ensures.value P d t) ∙ not-false call.node_holds.result c.if-not-node_holds.false)),
+          (sym (call.node_holds.ensures.value P d t) ∙ c.if-not-node_holds.false)),
       only_trans l.invariant.4 call.node_holds.ensures.notes_free,
     )
 

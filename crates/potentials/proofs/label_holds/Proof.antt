@@ -76,8 +76,8 @@ sum : (c : tie.After-potential) (d : Certificate) →
     ≡ potential_at d.potentials a.from.number +ℤ pos (a.setting.claim.q * c.reach-noted.result.done.gain)
 sum c d e =
     ap₂ (λ y z. y +ℤ z)
-    (to_z-of_z {w = w64} (record { sfits = c.potential.type-inv }) ∙ c.potential.ensures d e)
-    (to_z-of_z {w = w64} (record { sfits = c.times-weight.type-inv }) ∙ c.times-weight.ensures)
+    (to_z-of_z {w = w64} (record { sfits = c.potential.type_inv }) ∙ c.potential.ensures d e)
+    (to_z-of_z {w = w64} (record { sfits = c.times-weight.type_inv }) ∙ c.times-weight.ensures)
 
 add-high : tie.Need-overflow_add-high
 add-high c =

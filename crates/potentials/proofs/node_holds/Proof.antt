@@ -105,7 +105,7 @@ returns c =
       λ P d t.
           sym (by-labels head P d t
           ∙ all_stops (label_ok P d a.setting.claim a.u (node_of (tasks_in a.setting.rules) node)) l.label (2 ^ a.setting.rules.count) (omega (arith, labels head))
-          (sym (call.label_holds.ensures.value P d t) ∙ not-true call.label_holds.result c.if-not-label_holds.true)),
+          (sym (call.label_holds.ensures.value P d t) ∙ c.if-not-label_holds.true)),
       only_trans l.invariant.3 call.label_holds.ensures.notes_free,
     )
 
@@ -127,7 +127,7 @@ loop-again c =
       call.label_holds.ensures.notes_free.long ∙ l.invariant.1,
       λ P d t.
           all-next (label_ok P d a.setting.claim a.u (node_of (tasks_in a.setting.rules) node)) l.label (l.invariant.2 P d t)
-          (sym (call.label_holds.ensures.value P d t) ∙ not-false call.label_holds.result c.if-not-label_holds.false),
+          (sym (call.label_holds.ensures.value P d t) ∙ c.if-not-label_holds.false),
       only_trans l.invariant.3 call.label_holds.ensures.notes_free,
     )
 

@@ -62,7 +62,7 @@ charge : (c : tie.After-times invariant-loop decreases-loop) →
     to_z w64 (of_z w64 c.times.result) ≡ pos (a.claim.p * gain_in a.notes.now a.out.count (pattern_in a.notes.now c.loop-k.k))
 charge c =
     let a = c.args in
-    to_z-of_z {w = w64} (record { sfits = c.times.type-inv }) ∙ c.times.ensures
+    to_z-of_z {w = w64} (record { sfits = c.times.type_inv }) ∙ c.times.ensures
     ∙ ap (λ (x : ℕ). pos (a.claim.p * (x - 1))) (score c.before)
 
 times-requires : tie.Need-times-requires invariant-loop decreases-loop
@@ -87,7 +87,7 @@ sub-bound c =
     let g = gain_in a.notes.now a.out.count (pattern_in a.notes.now c.loop-k.k) in
     subst (SFits w64) (sym (bound c))
     (bound_fits a.high (a.claim.p * g)
-    (charge_small a.claim.p g (omega (arith, start.requires.fits_p)) (omega (arith, score c.before, c.best_score-gain.type-inv)))
+    (charge_small a.claim.p g (omega (arith, start.requires.fits_p)) (omega (arith, score c.before, c.best_score-gain.type_inv)))
     start.requires.fits_high)
 
 target-holds-requires : tie.Need-target_holds-requires invariant-loop decreases-loop
@@ -116,7 +116,7 @@ returns c d e =
     let l = c.loop-k in
     let ok = pattern_ok a.claim d.potentials a.notes.now a.out.count a.m.now a.out.cells a.out.state a.high in
     sym (all_map ok (pattern_in a.notes.now) (up_from 0 a.out.count)
-    ∙ all_stops (λ j. ok (pattern_in a.notes.now j)) l.k a.out.count (omega arith) (sym (turn c.before d e) ∙ not-true c.target_holds.result c.if-not-target_holds.true))
+    ∙ all_stops (λ j. ok (pattern_in a.notes.now j)) l.k a.out.count (omega arith) (sym (turn c.before d e) ∙ c.if-not-target_holds.true))
 
 add-k : tie.Need-overflow_add-k invariant-loop decreases-loop
 add-k c = search rules
@@ -134,7 +134,7 @@ loop-again c =
           let ok : ℤ → ℕ → Bool = λ z j.
           pattern_ok a.claim d.potentials a.notes.now a.out.count a.m.now a.out.cells a.out.state z (pattern_in a.notes.now j) in
           all-next (ok (to_z w64 (of_z w64 a.high))) l.k (l.invariant.1 d e)
-          (ap (λ (z : ℤ). ok z l.k) (to_z-of_z {w = w64} start.ranges.high) ∙ sym (turn c.before d e) ∙ not-false c.target_holds.result c.if-not-target_holds.false),
+          (ap (λ (z : ℤ). ok z l.k) (to_z-of_z {w = w64} start.ranges.high) ∙ sym (turn c.before d e) ∙ c.if-not-target_holds.false),
     )
 
 returns-2 : tie.Need-returns invariant-loop decreases-loop

@@ -32,7 +32,7 @@ returns : tie.Need-returns
 returns c d e =
     let start = c.before.before.before.before.before.before in
     ap₂ le_z
-    (to_z-of_z {w = w64} (record { sfits = c.potential.type-inv }) ∙ c.potential.ensures d e ∙ ap (potential_at d.potentials) (number c.before))
+    (to_z-of_z {w = w64} (record { sfits = c.potential.type_inv }) ∙ c.potential.ensures d e ∙ ap (potential_at d.potentials) (number c.before))
     (to_z-of_z {w = w64} start.ranges.bound)
 
 pub target_holds_spec : {M : Type 1} → statement M

@@ -38,7 +38,7 @@ loop-k-preserved c =
     )
 
 pub overflow_add-last : goal.overflow_add-last
-overflow_add-last c = omega (arith, c.wide.ensures.1, c.read_u16-pattern.type-inv)
+overflow_add-last c = omega (arith, c.wide.ensures.1, c.read_u16-pattern.type_inv)
 
 pub hash_step-requires : goal.hash_step-requires
 hash_step-requires c = c.loop-k.invariant.2

@@ -18,7 +18,7 @@ admitted-requires c = let s = c in states_fit_lem (plan_of s.args.plan) s.requir
 pub returns-then-not-admitted : goal.returns-then-not-admitted
 returns-then-not-admitted c =
     let a = c in
-    told-refusal _ _ _ _ (not-admitted _ _ a.if-n-gt-MAX_LABELS.false (sym (a.admitted.ensures _ refl) ∙ not-true _ c.if-not-admitted.true))
+    told-refusal _ _ _ _ (not-admitted _ _ a.if-n-gt-MAX_LABELS.false (sym (a.admitted.ensures _ refl) ∙ c.if-not-admitted.true))
 
 pub rules_of-requires : goal.rules_of-requires
 rules_of-requires c =
@@ -32,5 +32,5 @@ returns c =
     let a = r in
     let s = a in
     let P = plan_of s.args.plan in
-    told-trace _ P s.args.labels.now _ _ (all-admitted _ _ a.if-n-gt-MAX_LABELS.false (sym (a.admitted.ensures P refl) ∙ not-false _ r.if-not-admitted.false))
+    told-trace _ P s.args.labels.now _ _ (all-admitted _ _ a.if-n-gt-MAX_LABELS.false (sym (a.admitted.ensures P refl) ∙ r.if-not-admitted.false))
     (w.write_slots.ensures P (sym r.rules_of.ensures.tasks) (sym r.rules_of.ensures.policy))
