@@ -43,7 +43,7 @@ loop-m-preserved c =
     let s = l in
     let more = w.list_mask-end.ensures in
     let fits = room s.args.c l.loop-m.m s.args.at _ (omega arith) s.requires in
-    (omega arith, w.list_mask-end.auto.0 ∙ l.loop-m.invariant.1, put_as (keep-more (λ k. eqb (ones max_window k) s.args.c) l.loop-m.m) (put_then l.loop-m.invariant.2 more (omega (arith, fits, more.next, l.loop-m.invariant.2.next))))
+    (omega arith, w.list_mask-end.auto.table ∙ l.loop-m.invariant.1, put_as (keep-more (λ k. eqb (ones max_window k) s.args.c) l.loop-m.m) (put_then l.loop-m.invariant.2 more (omega (arith, fits, more.next, l.loop-m.invariant.2.next))))
 
 pub shape_of-table : goal.shape_of-table
 shape_of-table c = c.loop-m.invariant.1

@@ -34,7 +34,7 @@ loop-c-preserved c =
     let l = w in
     let more = w.list_group-end.ensures in
     let fits = room l.loop-c.c (omega arith) in
-    (omega arith, w.list_group-end.auto.0 ∙ l.loop-c.invariant.1, put_as (sym (groups_below-suc l.loop-c.c) ∙ ap groups_below (sym (add-one l.loop-c.c))) (put_then l.loop-c.invariant.2 more (omega (arith, fits, more.next, l.loop-c.invariant.2.next, length-replicate {A = ℕ} mask_count 0))))
+    (omega arith, w.list_group-end.auto.table ∙ l.loop-c.invariant.1, put_as (sym (groups_below-suc l.loop-c.c) ∙ ap groups_below (sym (add-one l.loop-c.c))) (put_then l.loop-c.invariant.2 more (omega (arith, fits, more.next, l.loop-c.invariant.2.next, length-replicate {A = ℕ} mask_count 0))))
 
 pub returns : goal.returns
 unfolding mask_table

@@ -51,7 +51,7 @@ loop-i-preserved c =
     let below : l.loop-i.i < length table = omega (arith, s.requires.0) in
     let more = put_as (ap number_line n.number.ensures) w.put_number_line-end.ensures in
     let fits = room table l.loop-i.i _ below s.requires.1 in
-    (omega arith, w.put_number_line-end.auto.0 ∙ l.loop-i.invariant.1, put_as (lines_more number_line table l.loop-i.i below) (put_then l.loop-i.invariant.2 more (omega (arith, fits, more.next, l.loop-i.invariant.2.next))))
+    (omega arith, w.put_number_line-end.auto.out ∙ l.loop-i.invariant.1, put_as (lines_more number_line table l.loop-i.i below) (put_then l.loop-i.invariant.2 more (omega (arith, fits, more.next, l.loop-i.invariant.2.next))))
 
 pub shape_of-out : goal.shape_of-out
 shape_of-out c = c.loop-i.invariant.1
