@@ -15,7 +15,7 @@ returns c =
     let cleared = c.clear_notes in
     let start = c in
     let a = start.args in
-    let after = noted.new.1.1.1.0 in
+    let after = noted.new.notes in
     let notes : notes_in after noted.result ≡ noted_of (tasks_in a.rules) a.label a.node.taken a.wanted nothing_noted =
     noted.ensures.notes ∙ ap (λ (n : Notes). foldl (note a.wanted) n (outcomes (tasks_in a.rules) a.label a.node.taken)) cleared.ensures.notes in
     record {
