@@ -36,19 +36,6 @@ returns-then-i-release t c =
       omega arith,
     )
 
-pub task_at-task-requires : goal.task_at-task-requires
-task_at-task-requires t c = (c.requires.0, omega (arith, c.requires.2, c.if-i-release.false))
-
-pub is_released-released-requires : goal.is_released-released-requires
-is_released-released-requires t c =
-    let p = c.requires in
-    omega (arith, p.0.tasks.count, p.0.size, p.2, c.if-i-release.false)
-
-pub mask_at-m-requires : goal.mask_at-m-requires
-mask_at-m-requires t c =
-    let p = c.requires in
-    omega (arith, p.0.tasks.count, p.0.size, p.2, c.if-i-release.false)
-
 pub fits-requires : goal.fits-requires
 fits-requires t c =
     let p = c.requires in

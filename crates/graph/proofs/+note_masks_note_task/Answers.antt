@@ -28,16 +28,6 @@ note_masks-returns-then-at-end t c =
     rw (with_none a.offers.now k a.task a.pattern a.gain a.masks a.notes.now a.at a.end c.if-at-end.true)
     (noting_none (wanted_in a.offers.now) (list_place a.task) a.notes.now a.count c.requires.3)
 
-pub note_masks-offset_bounds-notes-at : goal.note_masks-offset_bounds-notes-at
-note_masks-offset_bounds-notes-at t c =
-    let p = c.requires in
-    omega (arith, p.4.within, p.4.order, p.2.task, p.1.few, c.if-at-end.false)
-
-pub note_masks-bounds-notes-at : goal.note_masks-bounds-notes-at
-note_masks-bounds-notes-at t c =
-    let p = c.requires in
-    omega (arith, p.4.within, p.4.order, p.2.task, p.1.few, c.if-at-end.false)
-
 pub note_masks-overflow_add-joined : goal.note_masks-overflow_add-joined
 note_masks-overflow_add-joined t c =
     let a = c.args in
@@ -57,11 +47,6 @@ note_masks-note_task-after-requires t c =
       omega (arith, c.decreases),
       (p.0, p.1, subst (λ (x : ℕ). Carries a.offers.now a.task (bit_or a.pattern m) a.gain (a.masks + x) 1) (sym e) (carries-mask m low p.2), p.3),
     )
-
-pub note_masks-overflow_add-at : goal.note_masks-overflow_add-at
-note_masks-overflow_add-at t c =
-    let p = c.requires in
-    omega (arith, p.4.within, p.4.order, p.2.task, p.1.few, c.if-at-end.false)
 
 pub note_masks-note_masks-requires : goal.note_masks-note_masks-requires
 note_masks-note_masks-requires t c =
@@ -105,9 +90,6 @@ note_task-returns-then-task-offers t c =
     rw (offered-last a.offers.now a.task a.pattern a.gain a.masks c.if-task-offers.true)
     (noting_fewer (list_place a.task) (omega (arith, p.2.task, p.1.few)) c.note.ensures)
 
-pub note_task-overflow_add-next : goal.note_task-overflow_add-next
-note_task-overflow_add-next t c = let p = c.requires in omega (arith, p.2.task, p.1.few)
-
 pub note_task-overflow_mul-moved : goal.note_task-overflow_mul-moved
 note_task-overflow_mul-moved t c =
     let p = c.requires in
@@ -119,25 +101,10 @@ note_task-note_task-idle-requires t c =
     let lt = below c.if-task-offers.false p.2.task in
     (omega (arith, c.decreases), (p.0, p.1, carries_idle p.1 lt p.2, p.3))
 
-pub note_task-overflow_mul-from : goal.note_task-overflow_mul-from
-note_task-overflow_mul-from t c = let p = c.requires in omega (arith, p.2.task, p.1.few)
-
-pub note_task-overflow_add-from : goal.note_task-overflow_add-from
-note_task-overflow_add-from t c = let p = c.requires in omega (arith, p.2.task, p.1.few)
-
 pub note_task-list_masks-to-requires : goal.note_task-list_masks-to-requires
 note_task-list_masks-to-requires t c =
     let p = c.requires in
     (p.0, p.1, below c.if-task-offers.false p.2.task, omega (arith, c.note_task-idle.ensures.room.room, p.1.few))
-
-pub note_task-overflow_add-more : goal.note_task-overflow_add-more
-note_task-overflow_add-more t c = let p = c.requires in omega (arith, p.2.task, p.1.few)
-
-pub note_task-offset_bounds-offers-task : goal.note_task-offset_bounds-offers-task
-note_task-offset_bounds-offers-task t c = let p = c.requires in omega (arith, p.2.task, p.1.few)
-
-pub note_task-bounds-offers-task : goal.note_task-bounds-offers-task
-note_task-bounds-offers-task t c = let p = c.requires in omega (arith, p.2.task, p.1.few)
 
 pub note_task-overflow_cast-more : goal.note_task-overflow_cast-more
 note_task-overflow_cast-more t c =

@@ -1,7 +1,6 @@
 -- `graph::reach` meets its contract. Assumes nothing.
 use mathlib.Core.Path.{◌≡◌, ap, ◌∙◌}
 use mathlib.Core.List.{foldl}
-use borrow.Author.Rules.{rules}
 use Rattle.words.proofs.Free.{only_trans}
 use Rattle.policy.specs.View.{tasks_in}
 use Rattle.graph.specs.Outcomes.{Notes, outcomes, note, notes_in, noted_of, nothing_noted}
