@@ -105,8 +105,8 @@ returns c =
       λ P d t.
           sym (by-labels head P d t
           ∙ all_stops (label_ok P d a.setting.claim a.u (node_of (tasks_in a.setting.rules) node)) l.label (2 ^ a.setting.rules.count) (omega (arith, labels head))
-          (sym (call.label_holds.ensures.value P d t) ∙ c.if-not-label_holds.true)),
-      only_trans l.invariant.3 call.label_holds.ensures.notes_free,
+          (sym (call.label_holds.ensures.0 P d t) ∙ c.if-not-label_holds.true)),
+      only_trans l.invariant.3 call.label_holds.ensures.1,
     )
 
 add-label : tie.Need-overflow_add-label invariant-loop decreases-loop
@@ -124,11 +124,11 @@ loop-again c =
     let a = start.args in
     let node = head.node_of-node.result in (
       omega arith,
-      call.label_holds.ensures.notes_free.long ∙ l.invariant.1,
+      call.label_holds.ensures.1.long ∙ l.invariant.1,
       λ P d t.
           all-next (label_ok P d a.setting.claim a.u (node_of (tasks_in a.setting.rules) node)) l.label (l.invariant.2 P d t)
-          (sym (call.label_holds.ensures.value P d t) ∙ c.if-not-label_holds.false),
-      only_trans l.invariant.3 call.label_holds.ensures.notes_free,
+          (sym (call.label_holds.ensures.0 P d t) ∙ c.if-not-label_holds.false),
+      only_trans l.invariant.3 call.label_holds.ensures.1,
     )
 
 returns-2 : tie.Need-returns invariant-loop decreases-loop
