@@ -8,10 +8,10 @@ use borrow.Author.Rules.{rules}
 use Rattle.check_cap.proofs.check.Goals as goal
 
 pub feed_parts-watch-requires : goal.feed_parts-watch-requires
-feed_parts-watch-requires c = watching_from _ _ _ _ _ _ (omega arith) c.begin-begun.ensures
+feed_parts-watch-requires g c = watching_from _ _ _ _ _ _ (omega arith) c.begin-begun.ensures
 
 pub returns : goal.returns
-returns c =
+returns g c =
     let b = c in
     let r = b in
     let f = c.feed_parts-watch.ensures in
