@@ -6,8 +6,8 @@ use Rattle.check_cap.specs.Commands.{counted_is}
 use borrow.Author.Rules.{rules}
 use Rattle.check_cap.proofs.asked.Goals as goal
 
-pub returns-then-arg_count-ne3 : goal.returns-then-arg_count-ne3
-returns-then-arg_count-ne3 g c = ([], refl)
+pub returns-then-argument_count-ne3 : goal.returns-then-argument_count-ne3
+returns-then-argument_count-ne3 g c = ([], refl)
 
 pub returns : goal.returns
 returns g c =

@@ -13,9 +13,8 @@ decided n e r = subst (λ (c : Command). Runs c n) (sym e) r
 
 pub returns-in-Check : goal.returns-in-Check
 returns-in-Check g c =
-    let k = c in
-    let w = k.check.ensures in
-    decided c.print.result k.in-Check.is (w.0, w.1, k.check.result, w.2, c.print.ensures)
+    let w = c.check.ensures in
+    decided c.print.result c.in-Check.is (w.0, w.1, c.check.result, w.2, c.print.ensures)
 
 pub returns-in-Unknown : goal.returns-in-Unknown
 returns-in-Unknown g c = decided c.usage.result c.in-Unknown.is c.usage.ensures
