@@ -4,7 +4,6 @@ use Rattle.plan.specs.View.{plan_of}
 use Rattle.plan.proofs.View.{read_as}
 use Rattle.refusals.proofs.Told.{told_by, told-refusal}
 use Rattle.convert.proofs.Answers.{sends_back, back-short, by_long}
-use borrow.Author.Rules.{rules}
 use Rattle.convert.proofs.back.Goals as goal
 
 pub returns-then-out-lt-FIRST_PLAN_ROOM : goal.returns-then-out-lt-FIRST_PLAN_ROOM

@@ -9,8 +9,6 @@ use Rattle.node.specs.Edition.{edition_of}
 use Rattle.plan.specs.View.{plan_of}
 use Rattle.convert.proofs.Tasks.{locks_said}
 use Rattle.convert.proofs.Answers.{not_said, said}
-use borrow.Author.Tests.{not-true, not-false}
-use borrow.Author.Rules.{rules}
 use Rattle.convert.proofs.back_in.Goals as goal
 
 pub returns-then-not-says_all : goal.returns-then-not-says_all
@@ -30,4 +28,4 @@ returns c =
     let t = w in
     let first = t.first-first.ensures in
     let put = rw first at w.write_in.ensures in
-    said t.args.plan _ (rw first at (sym t.says_all.ensures ∙ w.if-not-says_all.false)) _ _ put.0 put.1
+    said t.args.plan _ (rw first at (sym t.says_all.ensures ∙ w.if-not-says_all.false)) _ _ put.value put.out_after

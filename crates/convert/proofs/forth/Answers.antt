@@ -8,7 +8,6 @@ use Rattle.plan.specs.View.{plan_of}
 use Rattle.plan.proofs.View.{read_as}
 use Rattle.refusals.proofs.Told.{told-refusal, told-written}
 use Rattle.convert.proofs.Answers.{sends_forth, forth-short, by_first}
-use borrow.Author.Rules.{rules}
 use Rattle.convert.proofs.forth.Goals as goal
 
 pub returns-then-out-lt-PLAN_ROOM : goal.returns-then-out-lt-PLAN_ROOM

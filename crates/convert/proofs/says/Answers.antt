@@ -29,9 +29,9 @@ returns-then-edition-task-2 c =
 pub returns-then-not-task : goal.returns-then-not-task
 returns-then-not-task c =
     let a = c.args in
-    by_tests (edition_of a.edition) (task_view a.task) (le-leb _ _ c.if-edition-task.false) (le-leb _ _ c.if-edition-task-2.false) c.if-not-task.true
+    by_tests (edition_of a.edition) (task_view a.task) (le-leb _ _ c.if-edition-task.false) (le-leb _ _ c.if-edition-task-2.false) (not-true _ c.if-not-task.true)
 
 pub returns : goal.returns
 returns c =
     let a = c.args in
-    by_tests (edition_of a.edition) (task_view a.task) (le-leb _ _ c.if-edition-task.false) (le-leb _ _ c.if-edition-task-2.false) c.if-not-task.false
+    by_tests (edition_of a.edition) (task_view a.task) (le-leb _ _ c.if-edition-task.false) (le-leb _ _ c.if-edition-task-2.false) (not-false _ c.if-not-task.false)

@@ -6,7 +6,6 @@ use native.Mathlib.Omega.{arith}
 use lib.ListN.{length}
 use Rattle.node.specs.Edition.{edition_of}
 use Rattle.convert.proofs.Tasks.{Left, next-task, no_task-left}
-use borrow.Author.Tests.{not-true, not-false}
 use borrow.Author.Rules.{rules}
 use Rattle.convert.proofs.says_all.Statement.{statement}
 use Rattle.convert.proofs.says_all.Tie as tie

@@ -6,7 +6,6 @@ use native.Mathlib.Omega.{arith}
 use Rattle.model.specs.Gap.{gap_next}
 use Rattle.plan.specs.View.{entry_of}
 use Rattle.gap.proofs.Automaton.{no_state, no_label, by_releases}
-use borrow.Author.Rules.{rules}
 use Rattle.gap.proofs.entry.Goals as goal
 
 pub returns-then-gap-state : goal.returns-then-gap-state

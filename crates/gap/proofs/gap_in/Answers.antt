@@ -5,7 +5,6 @@ use native.Mathlib.Omega.{arith}
 use lib.Pow.{pow_mono}
 use Rattle.model.specs.Limits.{max_tasks}
 use Rattle.gap.proofs.Answers.{no_gap, long_gap, no_task_lem, foreign-task, gap_written}
-use borrow.Author.Rules.{rules}
 use Rattle.gap.proofs.gap_in.Goals as goal
 
 pub returns-then-slots-lt1 : goal.returns-then-slots-lt1

@@ -1,7 +1,6 @@
 -- `gap::rewrite` meets its contract: a group's gap is that of the set of its tasks.
 -- Assumes nothing.
 use Rattle.gap.proofs.Groups.{by_set}
-use borrow.Author.Rules.{rules}
 use Rattle.gap.proofs.rewrite.Goals as goal
 
 pub returns : goal.returns

@@ -4,7 +4,6 @@ use Rattle.plan.specs.View.{plan_of}
 use Rattle.plan.proofs.View.{read_as}
 use Rattle.refusals.proofs.Told.{told_by, told-refusal}
 use Rattle.gap.proofs.Answers.{short, by_reading}
-use borrow.Author.Rules.{rules}
 use Rattle.gap.proofs.rewrite_set.Goals as goal
 
 pub returns-then-out-lt-PLAN_ROOM : goal.returns-then-out-lt-PLAN_ROOM

@@ -3,7 +3,6 @@
 use mathlib.Core.Path.{sym, ap, ◌∙◌}
 use Rattle.gap.specs.Groups.{group_of, set_of}
 use Rattle.gap.specs.declared.Group.{Group}
-use borrow.Author.Rules.{rules}
 use Rattle.gap.proofs.set_of.Goals as goal
 
 pub returns-in-Task : goal.returns-in-Task

@@ -1,17 +1,14 @@
 -- `gap::table` meets its contract: each turn writes the entry of one pair.
 -- Assumes nothing.
 use mathlib.Core.Path.{◌≡◌, sym, ap, ◌∙◌}
-use mathlib.Core.List.{List, map}
-use Prim.Native.Nat.{ℕ, ◌-◌, ◌≤◌}
+use mathlib.Core.List.{List}
+use Prim.Native.Nat.{ℕ}
 use native.Mathlib.Omega.{arith}
 use lib.ListN.{length, length-replicate}
-use Rattle.model.specs.Bytes.{overwrite}
-use Rattle.model.specs.Lists.{up_from}
 use Rattle.words.proofs.Memory.{overwrite-none}
 use Rattle.words.proofs.Tables.{written-more, written_all}
 use Rattle.plan.specs.View.{pair_count, empty_table}
 use Rattle.gap.specs.Automaton.{pair_entry}
-use borrow.Author.Rules.{rules}
 use Rattle.gap.proofs.table.Goals as goal
 
 -- the table has an entry for each pair

@@ -7,7 +7,6 @@ use native.Mathlib.Omega.{arith}
 use Rattle.model.specs.Limits.{max_tasks}
 use Rattle.model.proofs.Plan.{between-below, between-above, between-inside}
 use Rattle.model.proofs.Runs.{one-moved}
-use borrow.Author.Rules.{rules}
 use Rattle.gap.proofs.task_set.Goals as goal
 
 -- the set by the test of the task

@@ -1,7 +1,6 @@
 -- `gap::with_gap` meets its contract: the table's arcs are the automaton's.
 -- Assumes nothing.
 use Rattle.gap.proofs.Automaton.{replaced_sized, replaced-plan}
-use borrow.Author.Rules.{rules}
 use Rattle.gap.proofs.with_gap.Goals as goal
 
 pub returns : goal.returns

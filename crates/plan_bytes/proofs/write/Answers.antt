@@ -4,7 +4,6 @@ use mathlib.Core.Path.{sym, ap, subst}
 use mathlib.Core.Logic.{inr}
 use Prim.Native.Nat.{◌≤◌}
 use lib.ListN.{length}
-use borrow.Author.Rules.{rules}
 use Rattle.model.specs.Edition.{Edition, plan_room_in}
 use Rattle.plan_bytes.proofs.write.Goals as goal
 

@@ -1,17 +1,13 @@
 -- `plan_bytes::write_arcs` meets its contract: the arcs of the pairs before k are written.
 -- Assumes nothing.
 use mathlib.Core.Path.{◌≡◌, refl, ◌∙◌}
-use Prim.Native.Nat.{◌+◌, ◌-◌, ◌*◌, ◌≤◌}
+use Prim.Native.Nat.{◌+◌, ◌*◌, ◌≤◌}
 use native.Mathlib.Omega.{arith}
-use lib.ListN.{length, get_or}
-use Rattle.model.specs.Lists.{flat_map}
-use Rattle.model.specs.PlanBytes.{arc_bytes}
-use Rattle.plan.specs.View.{pair_count, arcs_below, arcs_in}
+use lib.ListN.{get_or}
+use Rattle.plan.specs.View.{pair_count, arcs_in}
 use Rattle.plan_bytes.specs.Sizes.{arc_size}
-use Rattle.model.specs.Bytes.{Put}
 use Rattle.words.proofs.Put.{put-none}
 use Rattle.plan_bytes.proofs.Pieces.{pair_length, arcs-more}
-use borrow.Author.Rules.{rules}
 use Rattle.plan_bytes.proofs.write_arcs.Goals as goal
 
 pub loop-k-init : goal.loop-k-init
@@ -31,7 +27,7 @@ loop-k-preserved c =
     let more = w.write_pair-end.ensures in
     let fits : w.write_pair-end.result ≤ l.args.at + arc_size * (l.loop-k.k + 1) =
     omega (arith, l.loop-k.invariant.1, more.next, pair_length l.loop-k.k (get_or next l.loop-k.k 0)) in
-    (omega arith, fits, w.write_pair-end.auto.0 ∙ l.loop-k.invariant.2, arcs-more next l.loop-k.k l.loop-k.invariant.3 more (omega arith))
+    (omega arith, fits, w.write_pair-end.auto.out ∙ l.loop-k.invariant.2, arcs-more next l.loop-k.k l.loop-k.invariant.3 more (omega arith))
 
 pub shape_of-out : goal.shape_of-out
 shape_of-out c = c.loop-k.invariant.2

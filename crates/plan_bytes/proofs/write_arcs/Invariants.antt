@@ -1,17 +1,13 @@
 -- `plan_bytes::write_arcs` meets its contract: the arcs of the pairs before k are written.
 -- Assumes nothing.
-use mathlib.Core.Path.{◌≡◌, refl, ◌∙◌}
+use mathlib.Core.Path.{◌≡◌}
 use Prim.Native.Nat.{◌+◌, ◌-◌, ◌*◌, ◌≤◌}
-use native.Mathlib.Omega.{arith}
-use lib.ListN.{length, get_or}
+use lib.ListN.{length}
 use Rattle.model.specs.Lists.{flat_map}
 use Rattle.model.specs.PlanBytes.{arc_bytes}
-use Rattle.plan.specs.View.{pair_count, arcs_below, arcs_in}
+use Rattle.plan.specs.View.{pair_count, arcs_below}
 use Rattle.plan_bytes.specs.Sizes.{arc_size}
 use Rattle.model.specs.Bytes.{Put}
-use Rattle.words.proofs.Put.{put-none}
-use Rattle.plan_bytes.proofs.Pieces.{pair_length, arcs-more}
-use borrow.Author.Rules.{rules}
 use Rattle.plan_bytes.proofs.write_arcs.Given as goal
 
 abbrev pub invariant-loop-k : goal.invariant-loop-k

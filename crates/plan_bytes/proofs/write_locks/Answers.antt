@@ -1,15 +1,9 @@
 -- `plan_bytes::write_locks` meets its contract: the locks of the tasks before i are written.
 -- Assumes nothing.
 use mathlib.Core.Path.{◌≡◌, refl, ◌∙◌}
-use Prim.Native.Nat.{◌-◌, ◌≤◌}
 use native.Mathlib.Omega.{arith}
-use lib.ListN.{length}
-use Rattle.model.specs.Bytes.{Put}
-use Rattle.model.specs.PlanBytes.{lock_bytes}
-use Rattle.plan.specs.View.{tasks_of}
 use Rattle.words.proofs.Put.{put-none}
 use Rattle.plan_bytes.proofs.Pieces.{lock-fits, locks-more}
-use borrow.Author.Rules.{rules}
 use Rattle.plan_bytes.proofs.write_locks.Goals as goal
 
 pub loop-i-init : goal.loop-i-init
@@ -35,7 +29,7 @@ loop-i-preserved c =
     let a = s.args in
     let more = w.write_lock-end.ensures in
     let fits = lock-fits a.tasks a.count l.loop-i.i (omega arith) (omega arith) in
-    (omega arith, w.write_lock-end.auto.0 ∙ l.loop-i.invariant.1, locks-more a.tasks l.loop-i.i (omega arith) l.loop-i.invariant.2 more (omega (arith, fits, s.requires.1, more.next, l.loop-i.invariant.2.next)))
+    (omega arith, w.write_lock-end.auto.out ∙ l.loop-i.invariant.1, locks-more a.tasks l.loop-i.i (omega arith) l.loop-i.invariant.2 more (omega (arith, fits, s.requires.1, more.next, l.loop-i.invariant.2.next)))
 
 pub shape_of-out : goal.shape_of-out
 shape_of-out c = c.loop-i.invariant.1

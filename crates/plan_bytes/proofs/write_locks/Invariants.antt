@@ -1,15 +1,11 @@
 -- `plan_bytes::write_locks` meets its contract: the locks of the tasks before i are written.
 -- Assumes nothing.
-use mathlib.Core.Path.{◌≡◌, refl, ◌∙◌}
+use mathlib.Core.Path.{◌≡◌}
 use Prim.Native.Nat.{◌-◌, ◌≤◌}
-use native.Mathlib.Omega.{arith}
 use lib.ListN.{length}
 use Rattle.model.specs.Bytes.{Put}
 use Rattle.model.specs.PlanBytes.{lock_bytes}
 use Rattle.plan.specs.View.{tasks_of}
-use Rattle.words.proofs.Put.{put-none}
-use Rattle.plan_bytes.proofs.Pieces.{lock-fits, locks-more}
-use borrow.Author.Rules.{rules}
 use Rattle.plan_bytes.proofs.write_locks.Given as goal
 
 abbrev pub invariant-loop-i : goal.invariant-loop-i

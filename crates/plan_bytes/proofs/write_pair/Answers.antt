@@ -3,7 +3,6 @@
 use native.Mathlib.Omega.{arith}
 use Rattle.words.proofs.Put.{put-none}
 use Rattle.plan_bytes.proofs.Pieces.{pair_bytes}
-use borrow.Author.Rules.{rules}
 use Rattle.plan_bytes.proofs.write_pair.Goals as goal
 
 pub returns-then-entry-eq0 : goal.returns-then-entry-eq0

@@ -5,11 +5,10 @@ use mathlib.Core.List.{List, [], ◌∷◌}
 use Prim.Native.Nat.{ℕ, ◌/◌, ◌%◌, ◌<◌}
 use native.Mathlib.Nat.{mod-eq_of_lt}
 use native.Mathlib.Omega.{arith}
-use lib.ListN.{length-set}
+use lib.ListN.{length, length-set}
 use Rattle.model.specs.Bytes.{bytes}
 use Rattle.words.proofs.Put.{put_byte, put_then, put_as}
 use Rattle.plan.proofs.Widths.{two_else}
-use borrow.Author.Rules.{rules}
 use Rattle.plan_bytes.proofs.write_task.Goals as goal
 
 -- a value's bytes, by the width
@@ -41,16 +40,16 @@ pub bounds-out-end : goal.bounds-out-end
 bounds-out-end c =
     let w = c in
     let s = w in
-    omega (arith, s.requires.1, w.write_four-end.ensures.next, w.write_four-end.auto.0, two_else s.requires.0 w.if-edition-eq1.false)
+    omega (arith, s.requires.1, w.write_four-end.ensures.next, w.write_four-end.auto.out, two_else s.requires.0 w.if-edition-eq1.false)
 
 pub shape_of-out : goal.shape_of-out
-shape_of-out c = simp length-set c.write_four-end.auto.0
+shape_of-out c = simp length-set c.write_four-end.auto.out
 
 pub returns : goal.returns
 returns c =
-    let w = c in
-    let s = w in
-    let t = s.args.t in
-    let end = put_byte w.write_four-end.new.out w.write_four-end.result (t.value % 256) (slice-write-out c) in
-    put_as (ap (λ (l : List ℕ). 0x01 ∷ t.work ∷ t.window ∷ l) (two_bytes _ t.value (two_else s.requires.0 w.if-edition-eq1.false) (omega arith)))
-    (put_then w.write_four-end.ensures end (omega (arith, slice-write-out c, w.write_four-end.auto.0)))
+    let t = c.args.t in
+    let wide = two_else c.requires.0 c.if-edition-eq1.false in
+    let inside : c.write_four-end.result < length c.write_four-end.new.out = omega (arith, c.requires.1, c.write_four-end.ensures.next, c.write_four-end.auto.out, wide) in
+    let end = put_byte c.write_four-end.new.out c.write_four-end.result (t.value % 256) inside in
+    put_as (ap (λ (l : List ℕ). 0x01 ∷ t.work ∷ t.window ∷ l) (two_bytes _ t.value wide (omega arith)))
+    (put_then c.write_four-end.ensures end (omega (arith, inside, c.write_four-end.auto.out)))

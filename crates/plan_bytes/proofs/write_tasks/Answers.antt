@@ -1,20 +1,16 @@
 -- `plan_bytes::write_tasks` meets its contract: the tasks before i are written.
 -- Assumes nothing.
 use mathlib.Core.Path.{◌≡◌, refl, ap, ◌∙◌}
-use Prim.Native.Nat.{ℕ, ◌+◌, ◌-◌, ◌*◌, ◌≤◌, ◌<◌}
+use Prim.Native.Nat.{ℕ, ◌+◌, ◌*◌, ◌≤◌, ◌<◌}
 use native.Mathlib.Nat.{mul-suc, mul-le-mul_left}
 use native.Mathlib.Numerals.{add-one}
 use native.Mathlib.Omega.{arith}
-use lib.ListN.{length, get_or}
-use Rattle.model.specs.Lists.{flat_map}
-use Rattle.model.specs.PlanBytes.{task_bytes}
-use Rattle.plan.specs.View.{empty_task, task_view, tasks_of}
+use lib.ListN.{get_or}
+use Rattle.plan.specs.View.{empty_task, task_view}
 use Rattle.model.specs.Edition.{task_width}
 use Rattle.node.specs.Edition.{edition_of}
-use Rattle.model.specs.Bytes.{Put}
 use Rattle.words.proofs.Put.{put-none}
 use Rattle.plan_bytes.proofs.Pieces.{task-length, tasks-more}
-use borrow.Author.Rules.{rules}
 use Rattle.plan_bytes.proofs.write_tasks.Goals as goal
 
 -- one more of so many pieces
@@ -48,7 +44,7 @@ loop-i-preserved c =
     let fits : w.write_task-end.result ≤ task_width e * (l.loop-i.i + 1) =
     omega (arith, l.loop-i.invariant.1, more.next, task-length e (task_view t), mul-suc (task_width e) l.loop-i.i, ap (λ (k : ℕ). task_width e * k) (add-one l.loop-i.i)) in
     let below : task_width e * (l.loop-i.i + 1) ≤ task_width e * a.count = mul-le-mul_left (task_width e) (omega arith) in
-    (omega arith, fits, w.write_task-end.auto.0 ∙ l.loop-i.invariant.2, tasks-more e a.tasks l.loop-i.i (omega arith) l.loop-i.invariant.3 more (omega (arith, fits, below, s.requires.1)))
+    (omega arith, fits, w.write_task-end.auto.out ∙ l.loop-i.invariant.2, tasks-more e a.tasks l.loop-i.i (omega arith) l.loop-i.invariant.3 more (omega (arith, fits, below, s.requires.1)))
 
 pub shape_of-out : goal.shape_of-out
 shape_of-out c = c.loop-i.invariant.2

@@ -1,20 +1,14 @@
 -- `plan_bytes::write_tasks` meets its contract: the tasks before i are written.
 -- Assumes nothing.
-use mathlib.Core.Path.{◌≡◌, refl, ap, ◌∙◌}
-use Prim.Native.Nat.{ℕ, ◌+◌, ◌-◌, ◌*◌, ◌≤◌, ◌<◌}
-use native.Mathlib.Nat.{mul-suc, mul-le-mul_left}
-use native.Mathlib.Numerals.{add-one}
-use native.Mathlib.Omega.{arith}
-use lib.ListN.{length, get_or}
+use mathlib.Core.Path.{◌≡◌}
+use Prim.Native.Nat.{◌-◌, ◌*◌, ◌≤◌}
+use lib.ListN.{length}
 use Rattle.model.specs.Lists.{flat_map}
 use Rattle.model.specs.PlanBytes.{task_bytes}
-use Rattle.plan.specs.View.{empty_task, task_view, tasks_of}
+use Rattle.plan.specs.View.{tasks_of}
 use Rattle.model.specs.Edition.{task_width}
 use Rattle.node.specs.Edition.{edition_of}
 use Rattle.model.specs.Bytes.{Put}
-use Rattle.words.proofs.Put.{put-none}
-use Rattle.plan_bytes.proofs.Pieces.{task-length, tasks-more}
-use borrow.Author.Rules.{rules}
 use Rattle.plan_bytes.proofs.write_tasks.Given as goal
 
 abbrev pub invariant-loop-i : goal.invariant-loop-i
