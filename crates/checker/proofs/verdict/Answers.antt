@@ -93,9 +93,9 @@ returns-then-not-edges_hold c = let start = c in
     let within = sym c.within_limits.ensures ∙ c.if-not-within_limits.false in
     let edges = c.edges_hold.ensures in record {
       result_value = λ P p h. bad_edge P z fraction (size ∙ count ∙ sym (held-count (tasks_in a.graph.rules) a.m.now a.graph.n (nodes P) h.nodes))
-          within (sym c.if-not-edges_hold.true ∙ edges.0 P z
+          within (sym c.if-not-edges_hold.true ∙ edges.value P z
           (tested P a.graph.rules a.next.now a.m.now bs a.graph.n a.parts p h start.requires.2 fraction count within));
-      notes_free = edges.1;
+      notes_free = edges.notes_free;
     }
 
 pub returns-then-not-holds : goal.returns-then-not-holds
@@ -109,10 +109,10 @@ returns-then-not-holds c = let start = c in
     let within = sym c.within_limits.ensures ∙ c.if-not-within_limits.false in
     let edges = c.edges_hold.ensures in record {
       result_value = λ P p h. bad_cycle_lem P z fraction (size ∙ count ∙ sym (held-count (tasks_in a.graph.rules) a.m.now a.graph.n (nodes P) h.nodes))
-          within (sym c.if-not-edges_hold.false ∙ edges.0 P z
+          within (sym c.if-not-edges_hold.false ∙ edges.value P z
           (tested P a.graph.rules a.next.now a.m.now bs a.graph.n a.parts p h start.requires.2 fraction count within))
           (sym c.if-not-holds.true ∙ c.holds.ensures P p h);
-      notes_free = edges.1;
+      notes_free = edges.notes_free;
     }
 
 pub allowance-k-requires : goal.allowance-k-requires
@@ -132,8 +132,8 @@ returns c = let start = c in
     let edges = c.edges_hold.ensures in record {
       result_value = λ P p h. (λ i. share a.parts.p a.parts.q ((sym count ∙ sym size) i) (c.allowance-k.ensures i))
           ∙ accepted P z fraction (size ∙ count ∙ sym (held-count (tasks_in a.graph.rules) a.m.now a.graph.n (nodes P) h.nodes))
-          within (sym c.if-not-edges_hold.false ∙ edges.0 P z
+          within (sym c.if-not-edges_hold.false ∙ edges.value P z
           (tested P a.graph.rules a.next.now a.m.now bs a.graph.n a.parts p h start.requires.2 fraction count within))
           (sym c.if-not-holds.false ∙ c.holds.ensures P p h);
-      notes_free = edges.1;
+      notes_free = edges.notes_free;
     }
