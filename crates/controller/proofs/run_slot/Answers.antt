@@ -26,4 +26,4 @@ returns c =
     let to = n.next_state-to.result in
     let more : to ≡ suc (to - 1) = omega (arith, d.if-to-eq0.false) in
     goes _ _ _ n.requires to n.next_state-to.ensures (to - 1) more d.slot-done.result d.slot-done.ensures _ _ _
-    ran.status_of-status.ensures ran.task_number-ran.ensures c.wrapping_add_u32-gain.ensures
+    ran.status_of-status.ensures ran.task_number-ran.ensures c.wrapping_add_u32-gain.ensures.value
