@@ -14,13 +14,8 @@ use Rattle.model.specs.Limits.{max_states}
 use Rattle.model.specs.Plan.{Plan, next_in}
 use Rattle.model.specs.Schedule.{admits, admits_from}
 use Rattle.plan.specs.View.{arcs_in, next_of, StatesFit}
+use Rattle.tracer.proofs.admitted.Invariants.{Reached}
 use Rattle.tracer.proofs.admitted.Goals as goal
-
--- the labels before a place are admitted, and lead to a state
-record Reached (next labels : List ℕ) (state i : ℕ) : Type 0 where
-  inside : i ≤ length labels
-  fits : state < max_states
-  rest : (P : Plan) → P.arcs ≡ arcs_in next → admits P labels ≡ admits_from P (drop i labels) state
 
 -- a step by the option that the label leads to
 admits-by : (P : Plan) (l : ℕ) (ls : List ℕ) (s : ℕ) (o : Option ℕ) → next_in P.arcs s l ≡ o →

@@ -26,7 +26,7 @@ add-out c = search rules
 
 -- after the gain's two bytes the output is as long as it was
 wrote : (c : tie.After-write_u16) → length c.write_u16.new.s ≡ length c.args.out.now
-wrote c = c.write_u16.auto.0 ∙ length-set c.args.out.now c.args.at c.args.row.ran
+wrote c = c.write_u16.auto.s ∙ length-set c.args.out.now c.args.at c.args.row.ran
 
 slice-write-out-2 : tie.Need-bounds-out-at-2
 slice-write-out-2 c = omega (arith, wrote c.before.before, c.requires)

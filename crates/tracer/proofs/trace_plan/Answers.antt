@@ -17,8 +17,8 @@ admitted-requires c = let s = c in states_fit_lem (plan_of s.args.plan) s.requir
 
 pub returns-then-not-admitted : goal.returns-then-not-admitted
 returns-then-not-admitted c =
-    let a = c in
-    told-refusal _ _ _ _ (not-admitted _ _ a.if-n-gt-MAX_LABELS.false (sym (a.admitted.ensures _ refl) ∙ c.if-not-admitted.true))
+    let P = plan_of c.args.plan in
+    told-refusal _ _ _ _ (not-admitted P _ c.if-n-gt-MAX_LABELS.false (sym (c.admitted.ensures P refl) ∙ c.if-not-admitted.true))
 
 pub rules_of-requires : goal.rules_of-requires
 rules_of-requires c =

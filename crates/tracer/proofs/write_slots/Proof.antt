@@ -101,7 +101,7 @@ loop-again c =
     let l = d.before.before.before in
     rw (add-one l.loop-slot.slot)
     (reached-next _ _ _ _ _ _ _ (entry l).requires.0 (entry l).requires.1 l.loop-slot.invariant d.loop-slot-test.true d.slot-done.result d.slot-done.ensures
-    _ (λ i. record { ran = n.task_number-task.ensures i; gain = d.slot-done.result.gain; cut = x.displaced-cut.ensures i }) _ w.put_row.ensures w.put_row.auto.0)
+    _ (λ i. record { ran = n.task_number-task.ensures i; gain = d.slot-done.result.gain; cut = x.displaced-cut.ensures i }) _ w.put_row.ensures w.put_row.auto.out)
 
 same_length : tie.Need-shape_of-out invariant-loop decreases-loop
 same_length c = c.loop-slot.invariant.size
