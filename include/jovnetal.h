@@ -1,4 +1,4 @@
-/* The calls of the kept-share analyser, for C and C++. `rt staticlib exports` writes target/staticlib/libexports.a, which has them.
+/* The calls of the kept-share analyser, for C and C++. `rt lib` in crates/exports writes out/libexports.a, which has them.
 
    Buffers are lent for the time of a call: each is a pointer, which must not be null, and the number of bytes behind it. No
    buffer that a call writes to may overlap another one. Any bytes may stand in plan, labels, certificate and writes: a call always

@@ -7,7 +7,7 @@ ghost use Rattle.model.specs.Bytes.{Put};
 ghost use Rattle.refusals.specs.Told.{result_by};
 ghost use Rattle.answer_text.specs.Finish.{Finishes, Printable, refusal_room, result_line};
 
-use libc::STDOUT_FILENO;
+use host::STDOUT;
 use refusals::Answer;
 
 // Writes the line of a refusal in front, where a call has written nothing, and answers the number of bytes that stand there.
@@ -27,7 +27,7 @@ pub fn print(answer: Answer, out: &mut [u8]) -> usize
     ensures { Finishes answer out.old out.new result }
 {
     let n = finish(answer, out);
-    io::write_all(STDOUT_FILENO, &out[..n]);
+    io::write_all(STDOUT, &out[..n]);
     n
 }
 
@@ -49,6 +49,6 @@ pub fn print_line(answer: Answer) -> usize
 {
     let mut line = [0u8; 32];
     let n = put_line(&mut line, answer);
-    io::write_all(STDOUT_FILENO, &line[..n]);
+    io::write_all(STDOUT, &line[..n]);
     n
 }

@@ -4,6 +4,8 @@
 ghost use Rattle.std.specs.Prelude.{◌≡◌, List, ℕ, ◌+◌, ◌*◌, ◌≤◌};
 ghost use Rattle.arguments.specs.Decimal.{decimal_in, capped, number_of};
 
+use std::env::Env;
+
 // What an argument is: a number, or none.
 #[derive(Clone, Copy)]
 pub enum Number {
@@ -50,10 +52,10 @@ pub fn number_in(s: &[u8]) -> Number
 }
 
 // The number that an argument is.
-pub fn number_at(i: usize) -> Number
+pub fn number_at<E: Env>(rt: &E, i: usize) -> Number
     ensures { (argument : List ℕ) × (result ≡ number_of (decimal_in argument)) }
 {
     let mut buffer = io::buffer();
-    let n = os::arg(i, &mut buffer);
+    let n = host::argument(rt, i, &mut buffer);
     number_in(&buffer[..n])
 }

@@ -8,7 +8,7 @@ mod scripts; // scripts.rt: a plan and a script of writes
 ghost use Rattle.std.specs.Prelude.{◌≡◌};
 ghost use Rattle.block_cases.specs.Kinds.{is_block_kind};
 
-use libc::STDOUT_FILENO;
+use host::STDOUT;
 
 const BLOCK: u8 = 13;
 
@@ -31,16 +31,17 @@ fn run(kind: u8, file: i32) -> bool
     }
 }
 
-fn main() {
+fn main(rt: HostRuntime) {
     let mut count = [0u8; 2];
-    let file = os::open_read(b"cases.bin");
+    let cases = host::open_read(&rt, "cases.bin");
+    let file = host::descriptor(&cases);
     io::read_full(file, &mut count);
     let mut left = words::read_u16(&count, 0);
     while 0 < left {
         let mut kind = [0u8; 1];
         io::read_full(file, &mut kind);
         if !run(kind[0], file) {
-            io::write_all(STDOUT_FILENO, b"unknown kind\n");
+            io::write_all(STDOUT, b"unknown kind\n");
         }
         left -= 1;
     }

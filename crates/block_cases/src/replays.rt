@@ -2,16 +2,16 @@
 ghost use Rattle.std.specs.Prelude.{List, ℕ};
 ghost use Rattle.controller.specs.View.{Replays};
 
-use libc::STDOUT_FILENO;
+use host::STDOUT;
 
 // Writes what the call tells and leaves to standard output, and answers the number.
 fn write_replay(plan: &[u8], writes: &[u8], out: &mut [u8; controller::BYTES]) -> u64
     ensures { Replays plan.now writes.now out.old out.new result }
 {
     let n = controller::replay(plan, writes, out);
-    io::print_decimal(STDOUT_FILENO, n);
-    io::write_all(STDOUT_FILENO, b"\n");
-    io::write_all(STDOUT_FILENO, out);
+    io::print_decimal(STDOUT, n);
+    io::write_all(STDOUT, b"\n");
+    io::write_all(STDOUT, out);
     n
 }
 

@@ -7,7 +7,7 @@ ghost use Rattle.controller.specs.View.{ReadyPart};
 ghost use Rattle.block_cases.specs.Script.{item_count, item_total, first_writes, Scripted, Moved};
 
 use controller::{Controller, Written};
-use libc::STDOUT_FILENO;
+use host::STDOUT;
 use plan::Outcome;
 use refusals::{Answer, Refusal};
 
@@ -72,7 +72,7 @@ fn write_item(controller: Controller, item: &[u8]) -> Controller
     let bytes = controller::registers(part.block);
     let mut line = [0u8; block_text::LINE_ROOM];
     let n = block_text::put_line(&mut line, 0, written.refusal, bytes);
-    io::write_all(STDOUT_FILENO, &line[..n]);
+    io::write_all(STDOUT, &line[..n]);
     part
 }
 

@@ -10,7 +10,7 @@ ghost use Rattle.controller.specs.View.{block_of, Ready, Becomes};
 ghost use Rattle.block_text.specs.Lines.{line_room, part_bytes, text_room, Lined};
 
 use controller::Block;
-use libc::STDOUT_FILENO;
+use host::STDOUT;
 use policy::Rules;
 
 // The most bytes of a line.
@@ -106,6 +106,6 @@ pub fn print_lines(rules: Rules, next: &[u8; plan::PAIRS], block: Block, writes:
     let mut text = text_room();
     let lines = put_lines(&mut text, rules, next, block, writes);
     let end = lines.end;
-    io::write_all(STDOUT_FILENO, &text[..end]);
+    io::write_all(STDOUT, &text[..end]);
     lines.block
 }

@@ -9,7 +9,7 @@ ghost use Rattle.cap.specs.View.{answer_of};
 ghost use Rattle.cap_text.specs.Line.{line_room};
 
 use cap::Answer;
-use libc::STDOUT_FILENO;
+use host::STDOUT;
 
 // Writes the line of an answer in front, and gives its length.
 fn put_line(out: &mut [u8], answer: Answer) -> usize
@@ -30,6 +30,6 @@ pub fn print(answer: Answer) -> usize
 {
     let mut line = [0u8; 32];
     let n = put_line(&mut line, answer);
-    io::write_all(STDOUT_FILENO, &line[..n]);
+    io::write_all(STDOUT, &line[..n]);
     n
 }

@@ -7,7 +7,7 @@ ghost use Rattle.plan_cases.specs.Kinds.{is_plan_kind};
 ghost use Rattle.edition_cases.specs.Kinds.{is_edition_kind};
 ghost use Rattle.certificate_cases.specs.Kinds.{is_certificate_kind};
 
-use libc::STDOUT_FILENO;
+use host::STDOUT;
 
 // Runs the next case of the file if its kind is known, and answers whether it is.
 fn run(kind: u8, file: i32) -> bool
@@ -22,16 +22,17 @@ fn run(kind: u8, file: i32) -> bool
     certificate_cases::run(kind, file)
 }
 
-fn main() {
+fn main(rt: HostRuntime) {
     let mut count = [0u8; 2];
-    let file = os::open_read(b"cases.bin");
+    let cases = host::open_read(&rt, "cases.bin");
+    let file = host::descriptor(&cases);
     io::read_full(file, &mut count);
     let mut left = words::read_u16(&count, 0);
     while 0 < left {
         let mut kind = [0u8; 1];
         io::read_full(file, &mut kind);
         if !run(kind[0], file) {
-            io::write_all(STDOUT_FILENO, b"unknown kind\n");
+            io::write_all(STDOUT, b"unknown kind\n");
         }
         left -= 1;
     }

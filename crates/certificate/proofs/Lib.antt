@@ -1,4 +1,3 @@
 pub mod Forms
 pub mod Placed
-pub mod Readers
 pub mod Runs

@@ -3,7 +3,7 @@
 ghost use Rattle.std.specs.Prelude.{List, ℕ};
 ghost use Rattle.certificate_cases.specs.Heads.{Called};
 
-use libc::STDOUT_FILENO;
+use host::STDOUT;
 
 // Writes what the solve call tells and whether its output begins with the head, and answers the latter.
 fn write_call(plan: &[u8], head: &[u8], work: &mut [u8], out: &mut [u8]) -> bool
@@ -11,7 +11,7 @@ fn write_call(plan: &[u8], head: &[u8], work: &mut [u8], out: &mut [u8]) -> bool
 {
     let mut line = [0u8; 32];
     let n = solve_text::put_passes_in(&mut line, plan, work, out);
-    io::write_all(STDOUT_FILENO, &line[..n]);
+    io::write_all(STDOUT, &line[..n]);
     records::write_comparison(out, head)
 }
 

@@ -4,7 +4,7 @@ ghost use Rattle.model.specs.Check.{check};
 ghost use Rattle.model.specs.Limits.{work_room};
 ghost use Rattle.model.specs.Text.{check_text};
 
-use libc::STDOUT_FILENO;
+use host::STDOUT;
 
 // Writes the line of a certificate checked against a plan, and answers its length.
 pub fn write_check(plan: &[u8], certificate: &[u8]) -> usize
@@ -13,7 +13,7 @@ pub fn write_check(plan: &[u8], certificate: &[u8]) -> usize
     let mut work = io::large_buffer();
     let mut line = check_text::line_room();
     let n = check_text::put_check(&mut line, plan, certificate, &mut work);
-    io::write_all(STDOUT_FILENO, &line[..n]);
+    io::write_all(STDOUT, &line[..n]);
     n
 }
 

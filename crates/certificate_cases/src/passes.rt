@@ -2,7 +2,7 @@
 ghost use Rattle.std.specs.Prelude.{List, ℕ};
 ghost use Rattle.certificate_cases.specs.Heads.{PassesLine};
 
-use libc::STDOUT_FILENO;
+use host::STDOUT;
 
 // Writes the line of the number of passes for a plan's fraction, and answers its length.
 fn write_passes(plan: &[u8]) -> usize
@@ -10,7 +10,7 @@ fn write_passes(plan: &[u8]) -> usize
 {
     let mut line = [0u8; 32];
     let n = solve_text::put_passes(&mut line, plan);
-    io::write_all(STDOUT_FILENO, &line[..n]);
+    io::write_all(STDOUT, &line[..n]);
     n
 }
 

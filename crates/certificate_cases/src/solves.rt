@@ -5,7 +5,7 @@ ghost use Rattle.std.specs.Prelude.{List, ℕ};
 ghost use Rattle.certificate_cases.specs.Heads.{Compared};
 
 use super::checks;
-use libc::STDOUT_FILENO;
+use host::STDOUT;
 
 // The first byte of every certificate; the line of a refusal begins with another.
 const FIRST: u8 = 0x11;
@@ -20,7 +20,7 @@ fn write_solution(plan: &[u8], head: &[u8]) -> bool
     if certificate[0] == FIRST {
         checks::write_check(plan, &certificate[..n]);
     } else {
-        io::write_all(STDOUT_FILENO, &certificate[..n]);
+        io::write_all(STDOUT, &certificate[..n]);
     }
     records::write_comparison(&certificate[..n], head)
 }

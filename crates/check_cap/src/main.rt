@@ -10,7 +10,10 @@ ghost use Rattle.check_cap.specs.Commands.{goes_on, part_bytes, most_parts, coun
 
 use arguments::Number;
 use cap::{Answer, Cap, Watch};
-use libc::STDERR_FILENO;
+use host::STDERR;
+use std::env::Env;
+use std::fs::File;
+use std::rt::Files;
 
 // How many labels are read at a time.
 const PART: usize = 65536;
@@ -77,14 +80,15 @@ fn feed_parts(fd: i32, cap: Cap, before: Watch) -> Watch
 }
 
 // Whether the run kept to a cap of so many slots and so much work.
-fn check(slots: u64, work: u64) -> Answer
+fn check<R: Files<File = File>>(rt: &R, slots: u64, work: u64) -> Answer
     ensures { (plan labels : List ℕ) × Checks plan labels slots work result }
 {
     let mut plan = io::large_buffer();
-    let length = io::read_full(os::open_read(b"plan.bin"), &mut plan);
+    let length = host::read_file(rt, "plan.bin", &mut plan);
     let begun = cap::begin(&plan[..length], slots, work);
     let cap = begun.cap;
-    let watch = feed_parts(os::open_read(b"labels.bin"), cap, begun.watch);
+    let labels = host::open_read(rt, "labels.bin");
+    let watch = feed_parts(host::descriptor(&labels), cap, begun.watch);
     watch.answer
 }
 
@@ -102,33 +106,33 @@ fn counted(slots: Number, work: Number) -> Command
 }
 
 // The command that the arguments are.
-fn asked() -> Command
+fn asked<E: Env>(rt: &E) -> Command
     ensures { (arguments : List (List ℕ)) × (result ≡ command_is arguments) }
 {
-    if os::arg_count() != 3 {
+    if host::argument_count(rt) != 3 {
         return Command::Unknown;
     }
-    counted(arguments::number_at(1), arguments::number_at(2))
+    counted(arguments::number_at(rt, 1), arguments::number_at(rt, 2))
 }
 
 // Tells how the program is called, and that nothing was written to standard output.
 fn usage() -> usize
     ensures { result ≡ 0 }
 {
-    io::write_all(STDERR_FILENO, b"usage: check_cap SLOTS WORK (numbers)\n");
+    io::write_all(STDERR, b"usage: check_cap SLOTS WORK (numbers)\n");
     0
 }
 
 // Runs a command, and answers the number of bytes written.
-fn run(command: Command) -> usize
+fn run<R: Files<File = File>>(rt: &R, command: Command) -> usize
     ensures { Runs command result }
 {
     match command {
-        Command::Check(slots, work) => cap_text::print(check(slots, work)),
+        Command::Check(slots, work) => cap_text::print(check(rt, slots, work)),
         Command::Unknown => usage(),
     }
 }
 
-fn main() {
-    run(asked());
+fn main(rt: HostRuntime) {
+    run(&rt, asked(&rt));
 }

@@ -2,20 +2,20 @@
 // opened reads as empty. What a file holds past these buffers changes no answer (theory: long-plan, long-certificate).
 #![tactic(auto)]
 
-use libc::STDOUT_FILENO;
+use host::STDOUT;
 
-fn main() {
+fn main(rt: HostRuntime) {
     let mut plan = io::large_buffer();
     let mut certificate = io::large_buffer();
     let mut work = io::large_buffer();
     let mut line = check_text::line_room();
-    let plan_length = io::read_full(os::open_read(b"plan.bin"), &mut plan);
-    let length = io::read_full(os::open_read(b"cert.bin"), &mut certificate);
+    let plan_length = host::read_file(&rt, "plan.bin", &mut plan);
+    let length = host::read_file(&rt, "cert.bin", &mut certificate);
     let n = check_text::put_check(
         &mut line,
         &plan[..plan_length],
         &certificate[..length],
         &mut work,
     );
-    io::write_all(STDOUT_FILENO, &line[..n]);
+    io::write_all(STDOUT, &line[..n]);
 }

@@ -2,12 +2,12 @@
 // cannot be opened reads as empty. What it holds past this buffer changes no answer (theory: long-plan).
 #![tactic(auto)]
 
-use libc::STDOUT_FILENO;
+use host::STDOUT;
 
-fn main() {
+fn main(rt: HostRuntime) {
     let mut plan = io::large_buffer();
     let mut line = [0u8; 32];
-    let length = io::read_full(os::open_read(b"plan.bin"), &mut plan);
+    let length = host::read_file(&rt, "plan.bin", &mut plan);
     let n = solve_text::put_passes(&mut line, &plan[..length]);
-    io::write_all(STDOUT_FILENO, &line[..n]);
+    io::write_all(STDOUT, &line[..n]);
 }

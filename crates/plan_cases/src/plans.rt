@@ -5,7 +5,7 @@ ghost use Rattle.model.specs.Plan.{read_plan};
 ghost use Rattle.model.specs.Bytes.{Put};
 ghost use Rattle.plan_cases.specs.Lines.{plan_line};
 
-use libc::STDOUT_FILENO;
+use host::STDOUT;
 use plan::Outcome;
 
 // Writes the line of a plan, and answers its length.
@@ -28,7 +28,7 @@ fn write_line(plan: &[u8]) -> usize
 {
     let mut line = [0u8; 32];
     let n = put_line(&mut line, plan);
-    io::write_all(STDOUT_FILENO, &line[..n]);
+    io::write_all(STDOUT, &line[..n]);
     n
 }
 

@@ -6,7 +6,7 @@ ghost use Rattle.model.specs.Text.{trace_text};
 ghost use Rattle.model.specs.Trace.{trace};
 ghost use Rattle.plan_cases.specs.Traced.{TracedAs};
 
-use libc::STDOUT_FILENO;
+use host::STDOUT;
 
 // Writes the text of a trace, and answers its length.
 fn write_trace(plan: &[u8], labels: &[u8]) -> usize
@@ -14,7 +14,7 @@ fn write_trace(plan: &[u8], labels: &[u8]) -> usize
 {
     let mut text = trace_text::text_room();
     let n = trace_text::put_trace(&mut text, plan, labels);
-    io::write_all(STDOUT_FILENO, &text[..n]);
+    io::write_all(STDOUT, &text[..n]);
     n
 }
 

@@ -8,7 +8,7 @@ ghost use Rattle.refusals.specs.Told.{result_by};
 ghost use Rattle.answer_text.specs.Finish.{result_line};
 ghost use Rattle.records.specs.Begins.{Begins};
 
-use libc::STDOUT_FILENO;
+use host::STDOUT;
 use refusals::Answer;
 
 // Reads the next record, two bytes of length and then so many, into a buffer; how many bytes it has.
@@ -67,14 +67,14 @@ pub fn write_comparison(bytes: &[u8], head: &[u8]) -> bool
 {
     let same = begins_with(bytes, head);
     if head.len() == 0 {
-        io::write_all(STDOUT_FILENO, b"no head\n");
+        io::write_all(STDOUT, b"no head\n");
         return same;
     }
     if same {
-        io::write_all(STDOUT_FILENO, b"head as given\n");
+        io::write_all(STDOUT, b"head as given\n");
         return same;
     }
-    io::write_all(STDOUT_FILENO, b"head differs\n");
+    io::write_all(STDOUT, b"head differs\n");
     same
 }
 
@@ -83,6 +83,6 @@ pub fn write_result(answer: Answer, out: &[u8]) -> usize
     ensures { result ≡ length (result_line (result_by answer)) }
 {
     let n = answer_text::print_line(answer);
-    io::write_all(STDOUT_FILENO, out);
+    io::write_all(STDOUT, out);
     n
 }

@@ -18,7 +18,10 @@ ghost use Rattle.rewrite_plan.specs.Commands.{word_in, alone_is, spacing_is, cou
 
 use arguments::Number;
 use gap::Group;
-use libc::STDERR_FILENO;
+use host::STDERR;
+use std::env::Env;
+use std::fs::File;
+use std::rt::Files;
 
 // The words of the commands.
 #[derive(Clone, Copy)]
@@ -64,11 +67,11 @@ fn word_in(s: &[u8]) -> Word
 }
 
 // The word that an argument is.
-fn word_at(i: usize) -> Word
+fn word_at<E: Env>(rt: &E, i: usize) -> Word
     ensures { (argument : List ℕ) × (result ≡ word_in argument) }
 {
     let mut buffer = io::buffer();
-    let n = os::arg(i, &mut buffer);
+    let n = host::argument(rt, i, &mut buffer);
     word_in(&buffer[..n])
 }
 
@@ -90,12 +93,12 @@ fn write_gap(plan: &[u8], group: Group, slots: u64, out: &mut [u8]) -> usize
 }
 
 // Reads the plan and writes it with the gap.
-fn rewrite_gap(group: Group, slots: u64) -> usize
+fn rewrite_gap<R: Files<File = File>>(rt: &R, group: Group, slots: u64) -> usize
     ensures { (plan out out' : List ℕ) × (plan_room ≡ length out) × Put out out' 0 (writing_text plan_bytes (group_gap plan (group_of group) slots (length out))) result }
 {
     let mut plan = io::large_buffer();
     let mut out = plan_room();
-    let length = io::read_full(os::open_read(b"plan.bin"), &mut plan);
+    let length = host::read_file(rt, "plan.bin", &mut plan);
     write_gap(&plan[..length], group, slots, &mut out)
 }
 
@@ -109,14 +112,14 @@ fn write_combined(first: &[u8], second: &[u8], out: &mut [u8]) -> usize
 }
 
 // Reads both plans and writes the plan of both.
-fn combine_plans() -> usize
+fn combine_plans<R: Files<File = File>>(rt: &R) -> usize
     ensures { (first second out out' : List ℕ) × (plan_room ≡ length out) × Put out out' 0 (writing_text plan_bytes (model_combine.combine first second (length out))) result }
 {
     let mut first = io::large_buffer();
     let mut second = io::large_buffer();
     let mut out = plan_room();
-    let length = io::read_full(os::open_read(b"plan.bin"), &mut first);
-    let other = io::read_full(os::open_read(b"other.bin"), &mut second);
+    let length = host::read_file(rt, "plan.bin", &mut first);
+    let other = host::read_file(rt, "other.bin", &mut second);
     write_combined(&first[..length], &second[..other], &mut out)
 }
 
@@ -130,12 +133,12 @@ fn write_forth(plan: &[u8], out: &mut [u8]) -> usize
 }
 
 // Reads the plan and sends it forth.
-fn send_forth() -> usize
+fn send_forth<R: Files<File = File>>(rt: &R) -> usize
     ensures { (plan out out' : List ℕ) × (plan_room ≡ length out) × Put out out' 0 (writing_text plan_bytes (model_convert.forth plan (length out))) result }
 {
     let mut plan = io::large_buffer();
     let mut out = plan_room();
-    let length = io::read_full(os::open_read(b"plan.bin"), &mut plan);
+    let length = host::read_file(rt, "plan.bin", &mut plan);
     write_forth(&plan[..length], &mut out)
 }
 
@@ -149,12 +152,12 @@ fn write_back(plan: &[u8], out: &mut [u8]) -> usize
 }
 
 // Reads the plan and sends it back.
-fn send_back() -> usize
+fn send_back<R: Files<File = File>>(rt: &R) -> usize
     ensures { (plan out out' : List ℕ) × (plan_room ≡ length out) × Put out out' 0 (writing_text (plan_bytes_in first_edition) (model_convert.back plan (length out))) result }
 {
     let mut plan = io::large_buffer();
     let mut out = plan_room();
-    let length = io::read_full(os::open_read(b"plan.bin"), &mut plan);
+    let length = host::read_file(rt, "plan.bin", &mut plan);
     write_back(&plan[..length], &mut out)
 }
 
@@ -200,15 +203,19 @@ fn counted(word: Word, number: Number, slots: Number) -> Command
 }
 
 // The command that the arguments are.
-fn asked() -> Command
+fn asked<E: Env>(rt: &E) -> Command
     ensures { (arguments : List (List ℕ)) × (result ≡ command_is arguments) }
 {
-    let count = os::arg_count();
+    let count = host::argument_count(rt);
     if count == 2 {
-        return alone(word_at(1));
+        return alone(word_at(rt, 1));
     }
     if count == 4 {
-        return counted(word_at(1), arguments::number_at(2), arguments::number_at(3));
+        return counted(
+            word_at(rt, 1),
+            arguments::number_at(rt, 2),
+            arguments::number_at(rt, 3),
+        );
     }
     Command::Unknown
 }
@@ -218,25 +225,25 @@ fn usage() -> usize
     ensures { result ≡ 0 }
 {
     io::write_all(
-        STDERR_FILENO,
+        STDERR,
         b"usage: rewrite_plan gap TASK SLOTS or group SET SLOTS (numbers), or rewrite_plan combine, forth or back\n",
     );
     0
 }
 
 // Runs a command, and answers the number of bytes written.
-fn run(command: Command) -> usize
+fn run<R: Files<File = File>>(rt: &R, command: Command) -> usize
     ensures { Runs command result }
 {
     match command {
-        Command::Space(group, slots) => rewrite_gap(group, slots),
-        Command::Combine => combine_plans(),
-        Command::Forth => send_forth(),
-        Command::Back => send_back(),
+        Command::Space(group, slots) => rewrite_gap(rt, group, slots),
+        Command::Combine => combine_plans(rt),
+        Command::Forth => send_forth(rt),
+        Command::Back => send_back(rt),
         Command::Unknown => usage(),
     }
 }
 
-fn main() {
-    run(asked());
+fn main(rt: HostRuntime) {
+    run(&rt, asked(&rt));
 }

@@ -54,9 +54,9 @@ fn run_parts(fd: i32, rules: Rules, next: &[u8; plan::PAIRS], block: Block) -> B
     after
 }
 
-fn main() {
+fn main(rt: HostRuntime) {
     let mut plan = io::large_buffer();
-    let length = io::read_full(os::open_read(b"plan.bin"), &mut plan);
+    let length = host::read_file(&rt, "plan.bin", &mut plan);
     let set = controller::set_up(&plan[..length]);
     let outcome = set.outcome;
     let controller = set.controller;
@@ -67,7 +67,8 @@ fn main() {
         Outcome::Sound => {
             let rules = controller.rules;
             let next = controller.next;
-            run_parts(os::open_read(b"writes.bin"), rules, &next, controller.block);
+            let writes = host::open_read(&rt, "writes.bin");
+            run_parts(host::descriptor(&writes), rules, &next, controller.block);
         }
     }
 }

@@ -3,14 +3,14 @@
 // long-labels).
 #![tactic(auto)]
 
-use libc::STDOUT_FILENO;
+use host::STDOUT;
 
-fn main() {
+fn main(rt: HostRuntime) {
     let mut plan = io::large_buffer();
     let mut labels = io::large_buffer();
     let mut text = trace_text::text_room();
-    let plan_length = io::read_full(os::open_read(b"plan.bin"), &mut plan);
-    let label_count = io::read_full(os::open_read(b"labels.bin"), &mut labels);
+    let plan_length = host::read_file(&rt, "plan.bin", &mut plan);
+    let label_count = host::read_file(&rt, "labels.bin", &mut labels);
     let n = trace_text::put_trace(&mut text, &plan[..plan_length], &labels[..label_count]);
-    io::write_all(STDOUT_FILENO, &text[..n]);
+    io::write_all(STDOUT, &text[..n]);
 }

@@ -9,6 +9,9 @@ ghost use Rattle.model.specs.Convert.{widened};
 ghost use Rattle.model.specs.Text.{writing_text};
 ghost use Rattle.answer_text.specs.Finish.{refusal_room};
 
+use std::fs::File;
+use std::rt::Files;
+
 // Writes the widened certificate from the output's first byte on and to standard output, and answers the number of bytes.
 fn write_widened(certificate: &[u8], out: &mut [u8]) -> usize
     requires { refusal_room ≤ length out.old }
@@ -19,15 +22,15 @@ fn write_widened(certificate: &[u8], out: &mut [u8]) -> usize
 }
 
 // Reads the certificate and writes it widened.
-fn widen_file() -> usize
+fn widen_file<R: Files<File = File>>(rt: &R) -> usize
     ensures { (certificate out out' : List ℕ) × (65536 ≡ length out) × Put out out' 0 (writing_text certificate_bytes (widened certificate (length out))) result }
 {
     let mut certificate = io::large_buffer();
     let mut out = io::large_buffer();
-    let length = io::read_full(os::open_read(b"cert.bin"), &mut certificate);
+    let length = host::read_file(rt, "cert.bin", &mut certificate);
     write_widened(&certificate[..length], &mut out)
 }
 
-fn main() {
-    widen_file();
+fn main(rt: HostRuntime) {
+    widen_file(&rt);
 }

@@ -2,13 +2,13 @@
 // it holds past this buffer changes no answer (theory: long-plan).
 #![tactic(auto)]
 
-use libc::STDOUT_FILENO;
+use host::STDOUT;
 
-fn main() {
+fn main(rt: HostRuntime) {
     let mut plan = io::large_buffer();
     let mut certificate = io::large_buffer();
     let mut work = io::large_buffer();
-    let length = io::read_full(os::open_read(b"plan.bin"), &mut plan);
+    let length = host::read_file(&rt, "plan.bin", &mut plan);
     let n = solve_text::put_certificate(&mut certificate, &plan[..length], &mut work);
-    io::write_all(STDOUT_FILENO, &certificate[..n]);
+    io::write_all(STDOUT, &certificate[..n]);
 }

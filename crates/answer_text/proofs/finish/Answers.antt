@@ -21,8 +21,7 @@ put_refusal-requires c = omega (arith, refused-most c.number.result (omega arith
 
 pub returns-in-Refused : goal.returns-in-Refused
 returns-in-Refused c =
-    let x = c in
-    finishes-as _ _ _ (sym x.in-Refused.is) (put_as (ap refused_line x.number.ensures) x.put_refusal.ensures)
+    finishes-as _ _ _ (sym c.in-Refused.is) (put_as (ap refused_line c.number.ensures) c.put_refusal.ensures)
 
 pub returns-in-Written : goal.returns-in-Written
 returns-in-Written c = finishes-as _ _ _ (sym c.in-Written.is) (refl, refl)

@@ -5,7 +5,7 @@ use borrow.Author.Rules.{rules}
 use Rattle.answer_text.proofs.print.Goals as goal
 
 pub slice_bounds-write_all-end : goal.slice_bounds-write_all-end
-slice_bounds-write_all-end c = let f = c in (finished_inside _ _ _ _ f.requires f.finish-n.ensures).0
+slice_bounds-write_all-end c = (finished_inside _ _ _ _ c.requires c.finish-n.ensures).0
 
 pub slice_bounds-write_all-end-2 : goal.slice_bounds-write_all-end-2
-slice_bounds-write_all-end-2 c = let f = c in (finished_inside _ _ _ _ f.requires f.finish-n.ensures).1
+slice_bounds-write_all-end-2 c = (finished_inside _ _ _ _ c.requires c.finish-n.ensures).1

@@ -30,10 +30,10 @@ put_number_line-requires c = omega (arith, number-most c.in-Written.n (omega ari
 
 pub returns-in-Refused : goal.returns-in-Refused
 returns-in-Refused c =
-    let x = c in
-    as_line x.in-Refused.is (ap refused_line x.number.ensures) x.put_refusal.ensures
+    let r = as_line c.in-Refused.is (ap refused_line c.number.ensures) c.put_refusal.ensures in
+    record { put = r.0; prefix_len = r.1 }
 
 pub returns-in-Written : goal.returns-in-Written
 returns-in-Written c =
-    let x = c in
-    as_line x.in-Written.is refl x.put_number_line.ensures
+    let r = as_line c.in-Written.is refl c.put_number_line.ensures in
+    record { put = r.0; prefix_len = r.1 }

@@ -6,7 +6,6 @@ use mathlib.Core.Logic.{inl}
 use Prim.Native.Nat.{◌+◌, ◌≤◌}
 use native.Mathlib.Omega.{arith}
 use borrow.Author.Rules.{rules}
-use borrow.Author.Tests.{not-true, not-false}
 use lib.ListN.{length, drop}
 use Rattle.model.specs.Certificate.{has, step_width}
 use Rattle.node.specs.Edition.{edition_of}

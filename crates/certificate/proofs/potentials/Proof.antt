@@ -7,7 +7,6 @@ use Prim.Native.Nat.{ℕ, ◌+◌, ◌-◌, ◌≤◌}
 use lib.ListN.{length, drop}
 use native.Mathlib.Omega.{arith}
 use borrow.Author.Rules.{rules}
-use borrow.Author.Tests.{not-true, not-false}
 use Rattle.model.specs.Certificate.{has, read_potentials}
 use Rattle.certificate.specs.View.{potential_command, potential_size, potential_in}
 use Rattle.certificate.proofs.Runs.{Reached, reached-start, reached-next, reached-all, reached-fault, has_room, potential-next, potential-fault}

@@ -1,7 +1,6 @@
 -- `certificate_bytes::write_end` meets its contract: a store writes one byte.
 -- Assumes nothing.
 use Rattle.words.proofs.Memory.{overwrite-one}
-use borrow.Author.Rules.{rules}
 use Rattle.certificate_bytes.proofs.write_end.Goals as goal
 
 pub returns : goal.returns

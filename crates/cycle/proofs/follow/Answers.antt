@@ -51,9 +51,9 @@ returns-then-not-edge c =
     record {
       reached =
           ap (reached_in (tasks_in a.rules)) gone
-          ∙ sym (step_lost (plan_by a.rules a.next.now max_states) (tasks_in a.rules) ss l.j (omega (arith, size, call.loop-j-test.true)) l.at l.auto l.ideal
+          ∙ sym (step_lost (plan_by a.rules a.next.now max_states) (tasks_in a.rules) ss l.j (omega (arith, size, call.loop-j-test.true)) l.at l.kept l.ideal
           (record { label = call.step_label-label.result; masks = unpacked call.step_masks-masks.result }) named call.edge_by-edge.result
-          call.edge_by-edge.ensures.edge c.if-not-edge.true)
+          call.edge_by-edge.ensures.edge (not-true _ c.if-not-edge.true))
           ∙ l.invariant.6;
       absent = λ f. gone;
       cells = subst (λ (w : Walked). Cells (tasks_in a.rules) cell_count w.at.cells) (sym gone) start.requires.cells.0;
@@ -116,9 +116,9 @@ loop-j-preserved c =
       edge.taken,
       omega (arith, edge.kept, l.invariant.4),
       omega (arith, edge.ideal, l.invariant.5),
-      sym (step-taken (plan_by a.rules a.next.now max_states) (tasks_in a.rules) ss l.j (omega (arith, size, more)) l.at l.auto l.ideal
+      sym (step-taken (plan_by a.rules a.next.now max_states) (tasks_in a.rules) ss l.j (omega (arith, size, more)) l.at l.kept l.ideal
           (record { label = call.step_label-label.result; masks = unpacked call.step_masks-masks.result }) named call.edge_by-edge.result
-          edge.edge c.if-not-edge.false)
+          edge.edge (not-false _ c.if-not-edge.false))
           ∙ l.invariant.6,
     )
 
@@ -131,7 +131,7 @@ returns c =
     let size = items-length (step_in long_reads bs) a.parts.from step_size a.parts.steps in
     record {
       reached =
-          sym (steps-done (plan_by a.rules a.next.now max_states) ss l.j (here (tasks_in a.rules) l.at l.auto l.ideal) (omega (arith, size, c.loop-j-test.false))) ∙ l.invariant.6;
+          sym (steps-done (plan_by a.rules a.next.now max_states) ss l.j (here (tasks_in a.rules) l.at l.kept l.ideal) (omega (arith, size, c.loop-j-test.false))) ∙ l.invariant.6;
       absent = λ f. absurd (true≢false f);
       cells = l.invariant.1;
     }

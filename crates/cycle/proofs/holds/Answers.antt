@@ -71,7 +71,7 @@ returns-then-not-walked c =
     let named = call.node_of-from.ensures ∙ ap node_in call.row-row.ensures in
     let recurs = call.if-parts-eq0.false in
     λ P p h. cycle_lost P (certificate_of long_reads bs a.parts) recurs (omega (arith, below, held-count ts a.m.now a.n (nodes P) h.nodes)) ts from
-    (ap (node_of ts) named ∙ held-node ts a.m.now a.n (nodes P) h.nodes a.parts.node below) call.follow-walked.result (call.follow-walked.ensures.reached ∙ sym (planned-follow p _ _)) c.if-not-walked.true
+    (ap (node_of ts) named ∙ held-node ts a.m.now a.n (nodes P) h.nodes a.parts.node below) call.follow-walked.result (call.follow-walked.ensures.reached ∙ sym (planned-follow p _ _)) (not-true _ c.if-not-walked.true)
 
 pub same_row-requires : goal.same_row-requires
 same_row-requires c =
@@ -97,7 +97,7 @@ returns-then-not-same_row c =
     same_end ts a.m.now a.n start.requires.1.holds.rows a.parts.node below from walked.at named call.follow-walked.ensures.cells (omega (arith, call.follow-walked.type_inv))
     end.result end.ensures tested.result tested.ensures in
     λ P p h. cycle_open P (certificate_of long_reads bs a.parts) recurs (omega (arith, below, held-count ts a.m.now a.n (nodes P) h.nodes)) ts from
-    (ap (node_of ts) named ∙ held-node ts a.m.now a.n (nodes P) h.nodes a.parts.node below) call.follow-walked.result (call.follow-walked.ensures.reached ∙ sym (planned-follow p _ _)) c.if-not-walked.false (same ∙ c.if-not-same_row.true)
+    (ap (node_of ts) named ∙ held-node ts a.m.now a.n (nodes P) h.nodes a.parts.node below) call.follow-walked.result (call.follow-walked.ensures.reached ∙ sym (planned-follow p _ _)) (not-false _ c.if-not-walked.false) (same ∙ c.if-not-same_row.true)
 
 pub returns : goal.returns
 returns c =
@@ -117,4 +117,4 @@ returns c =
     same_end ts a.m.now a.n start.requires.1.holds.rows a.parts.node below from walked.at named call.follow-walked.ensures.cells (omega (arith, call.follow-walked.type_inv))
     end.result end.ensures tested.result tested.ensures in
     λ P p h. c.is_tight.ensures ∙ cycle-closed P (certificate_of long_reads bs a.parts) recurs (omega (arith, below, held-count ts a.m.now a.n (nodes P) h.nodes)) ts from
-    (ap (node_of ts) named ∙ held-node ts a.m.now a.n (nodes P) h.nodes a.parts.node below) call.follow-walked.result (call.follow-walked.ensures.reached ∙ sym (planned-follow p _ _)) c.if-not-walked.false (same ∙ c.if-not-same_row.false)
+    (ap (node_of ts) named ∙ held-node ts a.m.now a.n (nodes P) h.nodes a.parts.node below) call.follow-walked.result (call.follow-walked.ensures.reached ∙ sym (planned-follow p _ _)) (not-false _ c.if-not-walked.false) (same ∙ c.if-not-same_row.false)

@@ -7,18 +7,14 @@ use Rattle.discovery.proofs.add_node.Goals as goal
 
 pub returns-in-Full : goal.returns-in-Full
 returns-in-Full c =
-    let call = c in
-    let start = call in
-    let a = start.args in
-    adds_answer a.node (omega (arith, start.well_formed)) a.m.now call.find_or_append.new.m a.n
-    call.row_of-row.result call.row_of-row.ensures
-    call.find_or_append.result Full call.find_or_append.ensures c.in-Full.is
+    let a = c.args in
+    adds_answer a.node (omega (arith, c.well_formed)) a.m.now c.find_or_append.new.m a.n
+    c.row_of-row.result c.row_of-row.ensures
+    c.find_or_append.result Full c.find_or_append.ensures c.in-Full.is
 
 pub returns-in-At : goal.returns-in-At
 returns-in-At c =
-    let call = c in
-    let start = call in
-    let a = start.args in
-    adds_answer a.node (omega (arith, start.well_formed)) a.m.now call.find_or_append.new.m a.n
-    call.row_of-row.result call.row_of-row.ensures
-    call.find_or_append.result (At _ _) call.find_or_append.ensures c.in-At.is
+    let a = c.args in
+    adds_answer a.node (omega (arith, c.well_formed)) a.m.now c.find_or_append.new.m a.n
+    c.row_of-row.result c.row_of-row.ensures
+    c.find_or_append.result (At _ _) c.find_or_append.ensures c.in-At.is

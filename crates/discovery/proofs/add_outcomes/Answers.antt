@@ -9,9 +9,8 @@ use Rattle.discovery.proofs.add_outcomes.Goals as goal
 
 pub loop-k-init : goal.loop-k-init
 loop-k-init c =
-    let start = c in
-    let a = start.args in
-    (omega arith, start.requires.0.index.few, refl, added_none a.cells a.state a.notes.now a.m.now a.n start.requires.0)
+    let a = c.args in
+    (omega arith, c.requires.0.index.few, refl, added_none a.cells a.state a.notes.now a.m.now a.n c.requires.0)
 
 pub noted_pattern-taken-requires : goal.noted_pattern-taken-requires
 noted_pattern-taken-requires c = (c.requires.1, omega arith)
@@ -20,18 +19,17 @@ pub add_node-known-requires : goal.add_node-known-requires
 add_node-known-requires c = let turn = c.loop-k.invariant in record { cells_len = c.requires.2; stored = turn.3.stored turn.1 }
 
 pub shape_of-m-then-known-gt-MAX_ROWS : goal.shape_of-m-then-known-gt-MAX_ROWS
-shape_of-m-then-known-gt-MAX_ROWS c = c.add_node-known.auto.0 ∙ c.loop-k.invariant.2
+shape_of-m-then-known-gt-MAX_ROWS c = c.add_node-known.auto.m ∙ c.loop-k.invariant.2
 
 pub returns-then-known-gt-MAX_ROWS : goal.returns-then-known-gt-MAX_ROWS
 returns-then-known-gt-MAX_ROWS c =
-    let turn = c in
-    let a = turn.args in
-    let l = turn.loop-k in
+    let a = c.args in
+    let l = c.loop-k in
     let one = c.add_node-known in
     let named = c.noted_pattern-taken in
-    added_many a.cells a.state a.notes.now a.m.now a.n (l.k + 1) a.count one.new.0 one.result (omega arith) c.if-known-gt-MAX_ROWS.true
+    added_many a.cells a.state a.notes.now a.m.now a.n (l.k + 1) a.count one.new.m one.result (omega arith) c.if-known-gt-MAX_ROWS.true
     (added_more a.cells a.state a.notes.now a.m.now a.n l.k l.m l.known l.invariant.1 l.invariant.3
-    named.result named.ensures.0 one.new.0 one.result one.ensures)
+    named.result named.ensures.0 one.new.m one.result one.ensures)
 
 pub overflow_add-k : goal.overflow_add-k
 overflow_add-k c = omega arith
@@ -41,16 +39,15 @@ loop-k-smaller c = omega arith
 
 pub loop-k-preserved : goal.loop-k-preserved
 loop-k-preserved c =
-    let turn = c in
-    let a = turn.args in
-    let l = turn.loop-k in
+    let a = c.args in
+    let l = c.loop-k in
     let one = c.add_node-known in
     let named = c.noted_pattern-taken in (
       omega arith,
       c.if-known-gt-MAX_ROWS.false,
-      one.auto.0 ∙ l.invariant.2,
+      one.auto.m ∙ l.invariant.2,
       added_more a.cells a.state a.notes.now a.m.now a.n l.k l.m l.known l.invariant.1 l.invariant.3
-          named.result named.ensures.0 one.new.0 one.result one.ensures,
+          named.result named.ensures.0 one.new.m one.result one.ensures,
     )
 
 pub shape_of-m : goal.shape_of-m

@@ -25,9 +25,8 @@ use Rattle.discovery.proofs.explore_all.Goals as goal
 pub loop-k-init : goal.loop-k-init
 unfolding found
 loop-k-init c =
-    let start = c in
-    let a = start.args in
-    let b = start.requires.2 in (
+    let a = c.args in
+    let b = c.requires.2 in (
       omega arith,
       b.held.index.few,
       refl,
@@ -51,57 +50,49 @@ node_of-node-requires c =
     ∙ part_length l.m (row_bytes * l.k) row_bytes (omega (arith, ((l.invariant.4 b.plan b.planned).held l.invariant.1).0.index.room))
 
 pub explore_node-known-requires : goal.explore_node-known-requires
-explore_node-known-requires c = let start = c.before.before.before.before.before.before.before.before in
-    let l = c.loop-k in
-    let a = start.args in
-    let b = start.requires.1 in
+explore_node-known-requires c = let l = c.loop-k in
+    let a = c.args in
+    let b = c.requires.1 in
     let named = c.node_of-node.ensures ∙ ap node_in c.row-row.ensures in
     let u = c.node_of-node.result in record {
       ruled = (
-        start.requires.0,
-        row-cells a.rules start.requires.0 a.next.now a.m.now l.m l.known l.k l.invariant.1 (omega arith) l.invariant.4 u named b.plan b.planned,
-        row-state a.rules start.requires.0 a.next.now a.m.now l.m l.known l.k l.invariant.1 (omega arith) l.invariant.4 u named b.plan b.planned,
-        row-taken a.rules start.requires.0 a.next.now a.m.now l.m l.known l.k l.invariant.1 (omega arith) l.invariant.4 u named b.plan b.planned,
+        c.requires.0,
+        row-cells a.rules c.requires.0 a.next.now a.m.now l.m l.known l.k l.invariant.1 (omega arith) l.invariant.4 u named b.plan b.planned,
+        row-state a.rules c.requires.0 a.next.now a.m.now l.m l.known l.k l.invariant.1 (omega arith) l.invariant.4 u named b.plan b.planned,
+        row-taken a.rules c.requires.0 a.next.now a.m.now l.m l.known l.k l.invariant.1 (omega arith) l.invariant.4 u named b.plan b.planned,
       );
-      holding = (((l.invariant.4 b.plan b.planned).held l.invariant.1).0, omega (arith, l.invariant.2, start.requires.3));
+      holding = (((l.invariant.4 b.plan b.planned).held l.invariant.1).0, omega (arith, l.invariant.2, c.requires.3));
     }
 
 pub shape_of-m-then-known-gt-MAX_ROWS : goal.shape_of-m-then-known-gt-MAX_ROWS
 shape_of-m-then-known-gt-MAX_ROWS c =
-    let call = c in
-    call.explore_node-known.auto.1.1.1.1.0 ∙ call.loop-k.invariant.3
+    c.explore_node-known.auto.m ∙ c.loop-k.invariant.3
 
 pub returns-then-known-gt-MAX_ROWS : goal.returns-then-known-gt-MAX_ROWS
-returns-then-known-gt-MAX_ROWS c = let call = c in
-    let named = call in
-    let l = named.loop-k in
-    let start = named.before.before.before.before.before.before in
-    let a = start.args in
-    let after = call.explore_node-known.new.m in
+returns-then-known-gt-MAX_ROWS c = let l = c.loop-k in
+    let a = c.args in
+    let after = c.explore_node-known.new.m in
     let then =
-    next_turn a.rules start.requires.0 a.next.now a.m.now l.m l.known l.k l.invariant.1 (omega arith) l.invariant.4
-    named.node_of-node.result (named.node_of-node.ensures ∙ ap node_in named.row-row.ensures) after call.explore_node-known.result call.explore_node-known.ensures.explored in record { known = λ P p. whole-many P (tasks_in a.rules) a.m.now after call.explore_node-known.result (suc l.k) (omega arith) (then P p) c.if-known-gt-MAX_ROWS.true; notes_free = only_trans l.invariant.5 call.explore_node-known.ensures.notes_free }
+    next_turn a.rules c.requires.0 a.next.now a.m.now l.m l.known l.k l.invariant.1 (omega arith) l.invariant.4
+    c.node_of-node.result (c.node_of-node.ensures ∙ ap node_in c.row-row.ensures) after c.explore_node-known.result c.explore_node-known.ensures.explored in record { known = λ P p. whole-many P (tasks_in a.rules) a.m.now after c.explore_node-known.result (suc l.k) (omega arith) (then P p) c.if-known-gt-MAX_ROWS.true; notes_free = only_trans l.invariant.5 c.explore_node-known.ensures.notes_free }
 
 pub loop-k-smaller : goal.loop-k-smaller
 loop-k-smaller c = omega arith
 
 pub loop-k-preserved : goal.loop-k-preserved
 loop-k-preserved c =
-    let call = c in
-    let named = call in
-    let l = named.loop-k in
-    let start = named.before.before.before.before.before.before in
-    let a = start.args in
-    let after = call.explore_node-known.new.m in
+    let l = c.loop-k in
+    let a = c.args in
+    let after = c.explore_node-known.new.m in
     let then =
-    next_turn a.rules start.requires.0 a.next.now a.m.now l.m l.known l.k l.invariant.1 (omega arith) l.invariant.4
-    named.node_of-node.result (named.node_of-node.ensures ∙ ap node_in named.row-row.ensures) after call.explore_node-known.result call.explore_node-known.ensures.explored in (
+    next_turn a.rules c.requires.0 a.next.now a.m.now l.m l.known l.k l.invariant.1 (omega arith) l.invariant.4
+    c.node_of-node.result (c.node_of-node.ensures ∙ ap node_in c.row-row.ensures) after c.explore_node-known.result c.explore_node-known.ensures.explored in (
       omega arith,
       c.if-known-gt-MAX_ROWS.false,
-      call.explore_node-known.ensures.notes_free.long ∙ l.invariant.2,
-      call.explore_node-known.auto.1.1.1.1.0 ∙ l.invariant.3,
-      λ P p. subst (λ (i : ℕ). Known (tasks_in a.rules) (explored P i) a.m.now after call.explore_node-known.result) (sym (add-one l.k)) (then P p),
-      only_trans l.invariant.5 call.explore_node-known.ensures.notes_free,
+      c.explore_node-known.ensures.notes_free.long ∙ l.invariant.2,
+      c.explore_node-known.auto.m ∙ l.invariant.3,
+      λ P p. subst (λ (i : ℕ). Known (tasks_in a.rules) (explored P i) a.m.now after c.explore_node-known.result) (sym (add-one l.k)) (then P p),
+      only_trans l.invariant.5 c.explore_node-known.ensures.notes_free,
     )
 
 pub shape_of-m : goal.shape_of-m

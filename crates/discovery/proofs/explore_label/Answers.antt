@@ -8,16 +8,13 @@ use Rattle.discovery.proofs.Labels.{label-explored}
 use Rattle.discovery.proofs.explore_label.Goals as goal
 
 pub returns : goal.returns
-returns c = let added = c in
-    let call = added in
-    let start = call.before.before.before.before in
-    let a = start.args in
-    let noted = call.reach-noted.ensures in
-    let d = call.reach-noted.result in
-    let after = call.reach-noted.new.notes in record {
+returns c = let a = c.args in
+    let noted = c.reach-noted.ensures in
+    let d = c.reach-noted.result in
+    let after = c.reach-noted.new.notes in record {
       explored = label-explored a.rules a.from.node a.from.label a.state d.done (order_in after d.count) a.m.now a.n
-          added.add_outcomes.new.m added.add_outcomes.result
-          (label-order (tasks_in a.rules) start.requires.0.0.tasks a.from.label a.from.node.taken pattern_count start.requires.0.2 after d.count noted.notes)
-          noted.slot start.requires.1.0 added.add_outcomes.ensures;
+          c.add_outcomes.new.m c.add_outcomes.result
+          (label-order (tasks_in a.rules) c.requires.ruled.0.tasks a.from.label a.from.node.taken pattern_count c.requires.ruled.2 after d.count noted.notes)
+          noted.slot c.requires.holding.0 c.add_outcomes.ensures;
       notes_free = noted.only;
     }

@@ -25,39 +25,34 @@ overflow_shl-labels c =
 
 pub loop-label-init : goal.loop-label-init
 loop-label-init c =
-    let start = c in
-    let a = start.args in
-    (omega arith, start.requires.holding.0.index.few, refl, refl, explored-none a.rules a.m.now a.n start.requires.holding.0, only_refl)
+    let a = c.args in
+    (omega arith, c.requires.holding.0.index.few, refl, refl, explored-none a.rules a.m.now a.n c.requires.holding.0, only_refl)
 
 pub follow_label-known-requires : goal.follow_label-known-requires
-follow_label-known-requires c = let start = c in
-    let a = start.args in
+follow_label-known-requires c = let a = c.args in
     let l = c.loop-label in
     let es = edges_below a.next.now (node_of (tasks_in a.rules) a.node) l.label in record {
-      ruled = start.requires.ruled;
+      ruled = c.requires.ruled;
       holding = (
         explored-held a.rules es a.m.now a.n l.m l.known l.invariant.4 l.invariant.1,
-        omega (arith, l.invariant.2, start.requires.holding.1),
+        omega (arith, l.invariant.2, c.requires.holding.1),
       );
     }
 
 pub shape_of-m-then-known-gt-MAX_ROWS : goal.shape_of-m-then-known-gt-MAX_ROWS
 shape_of-m-then-known-gt-MAX_ROWS c =
-    let call = c in
-    call.follow_label-known.auto.1.1.1.1.0 ∙ call.loop-label.invariant.3
+    c.follow_label-known.auto.m ∙ c.loop-label.invariant.3
 
 pub returns-then-known-gt-MAX_ROWS : goal.returns-then-known-gt-MAX_ROWS
-returns-then-known-gt-MAX_ROWS c = let call = c in
-    let l = call.loop-label in
-    let start = call in
-    let a = start.args in
+returns-then-known-gt-MAX_ROWS c = let l = c.loop-label in
+    let a = c.args in
     let u = node_of (tasks_in a.rules) a.node in
-    let after = call.follow_label-known.new.m in
-    let all = labels_shifted a.rules.count (omega (arith, start.requires.ruled.0.size, start.requires.ruled.0.tasks.count)) in record {
-      explored = label-many a.rules a.next.now u a.m.now a.n (l.label + 1) (2 ^ a.rules.count) after call.follow_label-known.result
+    let after = c.follow_label-known.new.m in
+    let all = labels_shifted a.rules.count (omega (arith, c.requires.ruled.0.size, c.requires.ruled.0.tasks.count)) in record {
+      explored = label-many a.rules a.next.now u a.m.now a.n (l.label + 1) (2 ^ a.rules.count) after c.follow_label-known.result
           (omega (arith, all)) c.if-known-gt-MAX_ROWS.true
-          (label-more a.rules a.next.now u a.m.now a.n l.label l.m l.known l.invariant.1 l.invariant.4 after call.follow_label-known.result call.follow_label-known.ensures.explored);
-      notes_free = only_trans l.invariant.5 call.follow_label-known.ensures.notes_free;
+          (label-more a.rules a.next.now u a.m.now a.n l.label l.m l.known l.invariant.1 l.invariant.4 after c.follow_label-known.result c.follow_label-known.ensures.explored);
+      notes_free = only_trans l.invariant.5 c.follow_label-known.ensures.notes_free;
     }
 
 pub loop-label-smaller : goal.loop-label-smaller
@@ -65,28 +60,25 @@ loop-label-smaller c = omega arith
 
 pub loop-label-preserved : goal.loop-label-preserved
 loop-label-preserved c =
-    let call = c in
-    let l = call.loop-label in
-    let start = call in
-    let a = start.args in
+    let l = c.loop-label in
+    let a = c.args in
     let u = node_of (tasks_in a.rules) a.node in
-    let after = call.follow_label-known.new.m in (
+    let after = c.follow_label-known.new.m in (
       omega arith,
       c.if-known-gt-MAX_ROWS.false,
-      call.follow_label-known.ensures.notes_free.long ∙ l.invariant.2,
-      call.follow_label-known.auto.1.1.1.1.0 ∙ l.invariant.3,
-      label-more a.rules a.next.now u a.m.now a.n l.label l.m l.known l.invariant.1 l.invariant.4 after call.follow_label-known.result call.follow_label-known.ensures.explored,
-      only_trans l.invariant.5 call.follow_label-known.ensures.notes_free,
+      c.follow_label-known.ensures.notes_free.long ∙ l.invariant.2,
+      c.follow_label-known.auto.m ∙ l.invariant.3,
+      label-more a.rules a.next.now u a.m.now a.n l.label l.m l.known l.invariant.1 l.invariant.4 after c.follow_label-known.result c.follow_label-known.ensures.explored,
+      only_trans l.invariant.5 c.follow_label-known.ensures.notes_free,
     )
 
 pub shape_of-m : goal.shape_of-m
 shape_of-m c = c.loop-label.invariant.3
 
 pub returns : goal.returns
-returns c = let start = c in
-    let a = start.args in
+returns c = let a = c.args in
     let l = c.loop-label in
-    let shifted = labels_shifted a.rules.count (omega (arith, start.requires.ruled.0.size, start.requires.ruled.0.tasks.count)) in
+    let shifted = labels_shifted a.rules.count (omega (arith, c.requires.ruled.0.size, c.requires.ruled.0.tasks.count)) in
     let all : l.label ≡ 2 ^ a.rules.count = omega (arith, shifted) in record {
       explored = subst (λ (k : ℕ). Explored a.rules (edges_below a.next.now (node_of (tasks_in a.rules) a.node) k) a.m.now a.n l.m l.known)
           all l.invariant.4;

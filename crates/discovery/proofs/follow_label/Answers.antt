@@ -16,26 +16,22 @@ use Rattle.discovery.proofs.Growing.{explored-none, explored-same}
 use Rattle.discovery.proofs.follow_label.Goals as goal
 
 pub returns-then-to-eq0 : goal.returns-then-to-eq0
-returns-then-to-eq0 c = let start = c in
-    let a = start.args in
+returns-then-to-eq0 c = let a = c.args in
     let u = node_of (tasks_in a.rules) a.from.node in record {
       explored = explored-same a.rules (λ P. []) (edges_by a.next.now u a.from.label) a.m.now a.n a.m.now a.n
           (λ P. ap (edges_to P u a.from.label) (ap next_of (sym c.if-to-eq0.true) ∙ c.next_state-to.ensures))
-          (explored-none a.rules a.m.now a.n start.requires.holding.0);
+          (explored-none a.rules a.m.now a.n c.requires.holding.0);
       notes_free = only_refl;
     }
 
 pub returns : goal.returns
-returns c = let call = c in
-    let read = call in
-    let start = read in
-    let a = start.args in
+returns c = let a = c.args in
     let u = node_of (tasks_in a.rules) a.from.node in
-    let to = read.next_state-to.result in
-    let admitted : 0 < to = omega (arith, call.if-to-eq0.false) in record {
+    let to = c.next_state-to.result in
+    let admitted : 0 < to = omega (arith, c.if-to-eq0.false) in record {
       explored = explored-same a.rules (λ P. edges_to P u a.from.label (some (to - 1))) (edges_by a.next.now u a.from.label)
-          a.m.now a.n call.explore_label.new.m call.explore_label.result
-          (λ P. ap (edges_to P u a.from.label) (sym (next-some to admitted) ∙ read.next_state-to.ensures))
-          call.explore_label.ensures.explored;
-      notes_free = call.explore_label.ensures.notes_free;
+          a.m.now a.n c.explore_label.new.m c.explore_label.result
+          (λ P. ap (edges_to P u a.from.label) (sym (next-some to admitted) ∙ c.next_state-to.ensures))
+          c.explore_label.ensures.explored;
+      notes_free = c.explore_label.ensures.notes_free;
     }

@@ -11,8 +11,7 @@ use Rattle.discovery.proofs.row_of.Goals as goal
 
 pub returns : goal.returns
 returns c =
-    let start = c in
-    let u = start.args.node in
+    let u = c.args.node in
     ap (λ (l : List ℕ). set l state_at u.state) c.write_u16.ensures
     ∙ ap (λ (l : List ℕ). set (overwrite l taken_at (bytes pattern_bytes u.taken)) state_at u.state) c.copy.ensures
-    ∙ row_written _ u.cells u.taken u.state refl start.requires
+    ∙ row_written _ u.cells u.taken u.state refl c.requires

@@ -40,7 +40,9 @@ next_fits n q b l k = record { fits = omega (arith, div-le_self n q) }
 
 pub returns-then-q-eq0 : goal.returns-then-q-eq0
 unfolding thousandths
-returns-then-q-eq0 c = printed c.args.p c.args.q (sym (ap (thousandths c.args.p) c.if-q-eq0.true))
+returns-then-q-eq0 c =
+    let r = printed c.args.p c.args.q (sym (ap (thousandths c.args.p) c.if-q-eq0.true)) in
+    record { result_value = r.0; printed = r.1 }
 
 pub overflow_mul-rest : goal.overflow_mul-rest
 overflow_mul-rest c = twice-fits _ _ c.if-q-eq0.false c.ranges.q
@@ -53,10 +55,10 @@ overflow_add-next c = next_fits _ _ _ (omega (arith, c.ranges.p.fits)) (omega ar
 
 pub returns-then-d-rest : goal.returns-then-d-rest
 returns-then-d-rest c =
-    printed c.args.p c.args.q
-    (above_zero c.args.p c.args.q c.if-q-eq0.false true (lt-ltb _ _ c.if-d-rest.true))
+    let r = printed c.args.p c.args.q (above_zero c.args.p c.args.q c.if-q-eq0.false true (lt-ltb _ _ c.if-d-rest.true)) in
+    record { result_value = r.0; printed = r.1 }
 
 pub returns : goal.returns
 returns c =
-    printed c.args.p c.args.q
-    (above_zero c.args.p c.args.q c.if-q-eq0.false false (le-ltb _ _ c.if-d-rest.false))
+    let r = printed c.args.p c.args.q (above_zero c.args.p c.args.q c.if-q-eq0.false false (le-ltb _ _ c.if-d-rest.false)) in
+    record { result_value = r.0; printed = r.1 }

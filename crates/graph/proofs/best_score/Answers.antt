@@ -1,5 +1,4 @@
 -- `graph::best_score` meets its contract. Assumes nothing.
-use borrow.Author.Rules.{rules}
 use Rattle.graph.proofs.Notes.{score-read}
 use Rattle.graph.proofs.best_score.Goals as goal
 

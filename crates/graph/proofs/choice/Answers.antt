@@ -1,7 +1,6 @@
 -- `graph::choice` meets its contract: the recursion starts with no mask.
 -- Assumes nothing.
 use mathlib.Core.Path.{◌∙◌}
-use borrow.Author.Rules.{rules}
 use Rattle.model.specs.Limits.{max_tasks}
 use Rattle.words.specs.Packed.{unpacked}
 use Rattle.words.proofs.Packed.{fields-length}

@@ -1,15 +1,9 @@
 -- `graph::clear_notes` meets its contract: so far the numbers before i are 0, and the others as they were. The measure is what is left.
 -- Assumes nothing.
-use mathlib.Core.Path.{◌≡◌, refl, ◌∙◌}
-use mathlib.Core.List.{List}
-use Prim.Native.Nat.{ℕ, ◌+◌, ◌-◌, ◌≤◌, ◌<◌}
-use native.Mathlib.Decide.{dec_lt}
-use native.Mathlib.Omega.{arith}
-use lib.ListN.{length, get_or, set, length-set}
-use lib.Seq.{get_or-set_same, get_or-set_other}
-use borrow.Author.Rules.{rules}
+use mathlib.Core.Path.{◌≡◌}
+use Prim.Native.Nat.{ℕ, ◌-◌, ◌≤◌, ◌<◌}
+use lib.ListN.{length, get_or}
 use Rattle.graph.specs.Outcomes.{order_at}
-use Rattle.graph.proofs.Notes.{notes-cleared}
 use Rattle.graph.proofs.clear_notes.Given as goal
 
 abbrev pub invariant-loop-i : goal.invariant-loop-i

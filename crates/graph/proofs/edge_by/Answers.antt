@@ -5,7 +5,6 @@ use mathlib.Core.Bool.{true≢false}
 use mathlib.Core.Option.{none, some}
 use Prim.Native.Nat.{◌-◌, ◌<◌}
 use native.Mathlib.Omega.{arith}
-use borrow.Author.Rules.{rules}
 use Rattle.model.specs.Limits.{max_value, max_states}
 use Rattle.model.specs.Slot.{Done, slot}
 use Rattle.words.specs.Packed.{unpacked}

@@ -1,7 +1,6 @@
 -- `graph::note` meets its contract: the outcome is not better, or better, or the first of its pattern.
 -- Assumes nothing.
 use native.Mathlib.Omega.{arith}
-use borrow.Author.Rules.{rules}
 use Rattle.graph.proofs.Notes.{free, noting_less, noting_better, noting_first}
 use Rattle.graph.proofs.note.Goals as goal
 

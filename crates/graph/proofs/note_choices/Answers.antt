@@ -4,7 +4,6 @@ use mathlib.Core.Path.{subst₂}
 use mathlib.Core.List.{List}
 use Prim.Native.Nat.{ℕ}
 use native.Mathlib.Omega.{arith}
-use borrow.Author.Rules.{rules}
 use Rattle.graph.specs.Outcomes.{Outcome, lists_at, Noting}
 use Rattle.graph.proofs.Offers.{offers-sound, offered-all}
 use Rattle.graph.proofs.note_choices.Goals as goal

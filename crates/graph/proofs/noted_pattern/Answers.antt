@@ -1,7 +1,6 @@
 -- `graph::noted_pattern` meets its contract. Assumes nothing.
 use mathlib.Core.Path.{refl}
 use native.Mathlib.Omega.{arith}
-use borrow.Author.Rules.{rules}
 use Rattle.graph.proofs.noted_pattern.Goals as goal
 
 pub overflow_cast-result : goal.overflow_cast-result

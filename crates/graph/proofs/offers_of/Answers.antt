@@ -3,17 +3,14 @@
 use mathlib.Core.Path.{◌≡◌, refl, sym, ap, ap₂, subst, ◌∙◌}
 use mathlib.Core.Bool.{Bool, true, false}
 use mir.Val.{bool_byte}
-use Prim.Native.Nat.{ℕ, ◌-◌, ◌≤◌, ◌<◌}
+use Prim.Native.Nat.{◌<◌}
 use native.Mathlib.Omega.{arith}
-use lib.ListN.{length, get_or}
-use borrow.Author.Rules.{rules}
 use Rattle.model.specs.Limits.{max_tasks}
 use Rattle.model.specs.Plan.{Task}
-use Rattle.model.specs.Lists.{one, bit}
-use Rattle.model.specs.Slot.{no_task}
+use Rattle.model.specs.Lists.{one}
 use Rattle.policy.specs.View.{InRange}
 use Rattle.graph.specs.Outcomes.{tasks_released}
-use Rattle.graph.specs.Offers.{span_start, span_end, tasks_at, wanted_at, task_count, wanted_in, OffersTask, offers_size}
+use Rattle.graph.specs.Offers.{span_start, span_end, tasks_at, wanted_at}
 use Rattle.graph.proofs.Offers.{task-size, task-other, tasks-more}
 use Rattle.graph.proofs.offers_of.Goals as goal
 

@@ -1,20 +1,12 @@
 -- `graph::offers_of` meets its contract: so far the first i tasks stand in the array. The measure is how many are left.
 -- Assumes nothing.
-use mathlib.Core.Path.{◌≡◌, refl, sym, ap, ap₂, subst, ◌∙◌}
-use mathlib.Core.Bool.{Bool, true, false}
-use mir.Val.{bool_byte}
+use mathlib.Core.Path.{◌≡◌}
 use Prim.Native.Nat.{ℕ, ◌-◌, ◌≤◌, ◌<◌}
-use native.Mathlib.Omega.{arith}
 use lib.ListN.{length, get_or}
-use borrow.Author.Rules.{rules}
-use Rattle.model.specs.Limits.{max_tasks}
-use Rattle.model.specs.Plan.{Task}
-use Rattle.model.specs.Lists.{one, bit}
+use Rattle.model.specs.Lists.{bit}
 use Rattle.model.specs.Slot.{no_task}
-use Rattle.policy.specs.View.{InRange}
 use Rattle.graph.specs.Outcomes.{tasks_released}
-use Rattle.graph.specs.Offers.{span_start, span_end, tasks_at, wanted_at, task_count, wanted_in, OffersTask, offers_size}
-use Rattle.graph.proofs.Offers.{task-size, task-other, tasks-more}
+use Rattle.graph.specs.Offers.{task_count, wanted_in, OffersTask, offers_size}
 use Rattle.graph.proofs.offers_of.Given as goal
 
 abbrev pub invariant-loop-i : goal.invariant-loop-i

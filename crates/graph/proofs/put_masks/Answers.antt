@@ -1,6 +1,5 @@
 -- `graph::put_masks` meets its contract. Assumes nothing.
 use mathlib.Core.Path.{sym, ap}
-use borrow.Author.Rules.{rules}
 use borrow.Author.Tests.{eq-eqb, ne_eqb}
 use Rattle.graph.specs.Outcomes.{with_masks}
 use Rattle.graph.proofs.put_masks.Goals as goal

@@ -1,7 +1,6 @@
 -- `graph::reach` meets its contract. Assumes nothing.
 use mathlib.Core.Path.{◌≡◌, ap, ◌∙◌}
 use mathlib.Core.List.{foldl}
-use borrow.Author.Rules.{rules}
 use Rattle.words.proofs.Free.{only_trans}
 use Rattle.policy.specs.View.{tasks_in}
 use Rattle.graph.specs.Outcomes.{Notes, outcomes, note, notes_in, noted_of, nothing_noted}
@@ -15,7 +14,7 @@ returns c =
     let cleared = c.clear_notes in
     let start = c in
     let a = start.args in
-    let after = noted.new.1.1.1.0 in
+    let after = noted.new.notes in
     let notes : notes_in after noted.result ≡ noted_of (tasks_in a.rules) a.label a.node.taken a.wanted nothing_noted =
     noted.ensures.notes ∙ ap (λ (n : Notes). foldl (note a.wanted) n (outcomes (tasks_in a.rules) a.label a.node.taken)) cleared.ensures.notes in
     record {

@@ -1,7 +1,6 @@
 -- `graph::task_at` meets its contract: the tasks of a release are its first ones.
 -- Assumes nothing.
 use native.Mathlib.Omega.{arith}
-use borrow.Author.Rules.{rules}
 use Rattle.plan.proofs.View.{task-given}
 use Rattle.graph.proofs.task_at.Goals as goal
 

@@ -6,7 +6,6 @@ use Prim.Native.Nat.{ℕ, ◌+◌, ◌≤◌}
 use native.Mathlib.Omega.{arith}
 use lib.Bits.{bit_or, or_lt}
 use lib.Dec.{eqb}
-use borrow.Author.Rules.{rules}
 use Rattle.model.specs.Limits.{max_window}
 use Rattle.graph.specs.declared.Chosen.{Chosen}
 use Rattle.graph.proofs.with_mask.Goals as goal

@@ -1,7 +1,6 @@
 -- `graph::worth` meets its contract: a mask of 0 is worth nothing.
 -- Assumes nothing.
 use mathlib.Core.Path.{refl}
-use borrow.Author.Rules.{rules}
 use borrow.Author.Tests.{eq-eqb, ne_eqb}
 use Rattle.graph.proofs.worth.Goals as goal
 

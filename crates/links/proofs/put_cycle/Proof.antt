@@ -41,32 +41,32 @@ loop-holds c = trailing_start
 abbrev first : Turn → Start
 first l = l.before.before
 
-room : (l : Turn) → links_end ≤ length l.loop.m
-room l = omega (arith, (first l).pre.0.room, l.loop.inv.only.long)
+room : (l : Turn) → links_end ≤ length l.loop-left.m
+room l = omega (arith, (first l).requires.0.room, l.loop-left.invariant.only.long)
 
-below : (l : Turn) → l.loop.at < max_nodes
-below l = subst (λ (x : ℕ). x < max_nodes) (sym l.loop.inv.place) (on-way (first l) ((first l).args.j - l.loop.left) (omega arith))
+below : (l : Turn) → l.loop-left.at < max_nodes
+below l = subst (λ (x : ℕ). x < max_nodes) (sym l.loop-left.invariant.place) (on-way (first l) ((first l).args.j - l.loop-left.left) (omega arith))
 
-above-below : (l : Turn) → 0 < l.loop.left → (link_in (first l).args.m.now l.loop.at).parent < max_nodes
+above-below : (l : Turn) → 0 < l.loop-left.left → (link_in (first l).args.m.now l.loop-left.at).parent < max_nodes
 above-below l h =
     let up = (state_in (first l).args.m.now).parent in
-    let k = (first l).args.j - l.loop.left in
-    subst (λ (x : ℕ). x < max_nodes) (above-next up k (first l).args.u ∙ ap up (sym l.loop.inv.place))
-    (on-way (first l) (suc k) (omega (arith, l.loop.inv.most)))
+    let k = (first l).args.j - l.loop-left.left in
+    subst (λ (x : ℕ). x < max_nodes) (above-next up k (first l).args.u ∙ ap up (sym l.loop-left.invariant.place))
+    (on-way (first l) (suc k) (omega (arith, l.loop-left.invariant.most)))
 
 link-to-requires : tie.Need-link_to-link-requires invariant-loop decreases-loop
-link-to-requires c κs = (below c.before.before, room c.before.before)
+link-to-requires c κs = (below c.before, room c.before)
 
 sub-left : tie.Need-overflow_sub-left invariant-loop decreases-loop
 sub-left c = search rules
 
 -- the link that is read stood there before
-same : (l : Turn) → link_in l.loop.m l.loop.at ≡ link_in (first l).args.m.now l.loop.at
-same l = only-links l.loop.inv.only l.loop.at (below l)
+same : (l : Turn) → link_in l.loop-left.m l.loop-left.at ≡ link_in (first l).args.m.now l.loop-left.at
+same l = only-links l.loop-left.invariant.only l.loop-left.at (below l)
 
 put-step-requires : tie.Need-put_step-requires invariant-loop decreases-loop
 put-step-requires c κs =
-    let l = c.before.before.before.before in (
+    let l = c.before.before.before in (
       omega (arith, l.loop-left.invariant.most, few (first l)),
       room l,
       subst (λ (r : Link). r.parent < max_nodes) (sym (c.link_to-link.ensures ∙ same l)) (above-below l c.loop-left-test.true),
@@ -77,7 +77,7 @@ loop-less c = search rules
 
 loop-again : tie.Need-loop-left-preserved invariant-loop decreases-loop
 loop-again c =
-    let l = c.before.before.before.before.before.before.before in
+    let l = c.before.before.before.before.before.before in
     let a = first l in
     let e = c.link_to-link.ensures ∙ same l in
     let m' = c.put_step.new.m in
@@ -90,7 +90,7 @@ put-step-requires-2 c κs =
     let a = c.before.before.before.before in (few a, room c.before.before, omega (arith, a.requires.0.below, a.requires.0.few))
 
 same_length : tie.Need-shape_of-m invariant-loop decreases-loop
-same_length c = c.put_step-2.auto.0 ∙ c.loop-left.invariant.only.long
+same_length c = c.put_step-2.auto.m ∙ c.loop-left.invariant.only.long
 
 returns : tie.Need-returns invariant-loop decreases-loop
 returns c = trailing_all c.loop-left.invariant (few c.before.before.before.before.before.before.before) c.loop-left-test.false c.put_step-2.ensures

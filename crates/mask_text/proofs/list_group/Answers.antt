@@ -32,18 +32,13 @@ loop-m-init c = (omega arith, refl, put-none _ _)
 
 pub list_mask-end-requires : goal.list_mask-end-requires
 list_mask-end-requires c =
-    let l = c in
-    let s = l in
-    (omega arith, omega (arith, l.loop-m.invariant.1, l.loop-m.invariant.2.next, room s.args.c l.loop-m.m s.args.at _ (omega arith) s.requires))
+    (omega arith, omega (arith, c.loop-m.invariant.1, c.loop-m.invariant.2.next, room c.args.c c.loop-m.m c.args.at _ (omega arith) c.requires))
 
 pub loop-m-preserved : goal.loop-m-preserved
 loop-m-preserved c =
-    let w = c in
-    let l = w in
-    let s = l in
-    let more = w.list_mask-end.ensures in
-    let fits = room s.args.c l.loop-m.m s.args.at _ (omega arith) s.requires in
-    (omega arith, w.list_mask-end.auto.0 ∙ l.loop-m.invariant.1, put_as (keep-more (λ k. eqb (ones max_window k) s.args.c) l.loop-m.m) (put_then l.loop-m.invariant.2 more (omega (arith, fits, more.next, l.loop-m.invariant.2.next))))
+    let more = c.list_mask-end.ensures in
+    let fits = room c.args.c c.loop-m.m c.args.at _ (omega arith) c.requires in
+    (omega arith, c.list_mask-end.auto.table ∙ c.loop-m.invariant.1, put_as (keep-more (λ k. eqb (ones max_window k) c.args.c) c.loop-m.m) (put_then c.loop-m.invariant.2 more (omega (arith, fits, more.next, c.loop-m.invariant.2.next))))
 
 pub shape_of-table : goal.shape_of-table
 shape_of-table c = c.loop-m.invariant.1
@@ -51,6 +46,5 @@ shape_of-table c = c.loop-m.invariant.1
 pub returns : goal.returns
 unfolding group
 returns c =
-    let l = c in
-    let e : l.loop-m.m ≡ mask_count = omega arith in
-    rw e at l.loop-m.invariant.2
+    let e : c.loop-m.m ≡ mask_count = omega arith in
+    rw e at c.loop-m.invariant.2

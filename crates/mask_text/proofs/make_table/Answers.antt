@@ -25,21 +25,17 @@ loop-c-init c = (omega arith, length-replicate {A = ℕ} mask_count 0, put-none 
 
 pub list_group-end-requires : goal.list_group-end-requires
 list_group-end-requires c =
-    let l = c in
-    omega (arith, l.loop-c.invariant.1, l.loop-c.invariant.2.next, room l.loop-c.c (omega arith))
+    omega (arith, c.loop-c.invariant.1, c.loop-c.invariant.2.next, room c.loop-c.c (omega arith))
 
 pub loop-c-preserved : goal.loop-c-preserved
 loop-c-preserved c =
-    let w = c in
-    let l = w in
-    let more = w.list_group-end.ensures in
-    let fits = room l.loop-c.c (omega arith) in
-    (omega arith, w.list_group-end.auto.0 ∙ l.loop-c.invariant.1, put_as (sym (groups_below-suc l.loop-c.c) ∙ ap groups_below (sym (add-one l.loop-c.c))) (put_then l.loop-c.invariant.2 more (omega (arith, fits, more.next, l.loop-c.invariant.2.next, length-replicate {A = ℕ} mask_count 0))))
+    let more = c.list_group-end.ensures in
+    let fits = room c.loop-c.c (omega arith) in
+    (omega arith, c.list_group-end.auto.table ∙ c.loop-c.invariant.1, put_as (sym (groups_below-suc c.loop-c.c) ∙ ap groups_below (sym (add-one c.loop-c.c))) (put_then c.loop-c.invariant.2 more (omega (arith, fits, more.next, c.loop-c.invariant.2.next, length-replicate {A = ℕ} mask_count 0))))
 
 pub returns : goal.returns
 unfolding mask_table
 returns c =
-    let l = c in
-    let e : l.loop-c.c ≡ suc max_window = omega arith in
-    l.loop-c.invariant.2.bytes ∙ ap (λ (k : ℕ). overwrite (replicate mask_count 0) 0 (groups_below k)) e
+    let e : c.loop-c.c ≡ suc max_window = omega arith in
+    c.loop-c.invariant.2.bytes ∙ ap (λ (k : ℕ). overwrite (replicate mask_count 0) 0 (groups_below k)) e
     ∙ overwrite-all (replicate mask_count 0) mask_table (length-table ∙ sym (length-replicate {A = ℕ} mask_count 0))

@@ -31,33 +31,25 @@ loop-i-init c = (omega arith, refl, put-none _ 0)
 
 pub put_number_line-end-requires : goal.put_number_line-end-requires
 put_number_line-end-requires c =
-    let l = c in
-    let s = l in
     omega (
       arith,
       ap (λ (n : ℕ). length (number_line n)) c.number.ensures,
-      l.loop-i.invariant.1,
-      l.loop-i.invariant.2.next,
-      room s.args.table.now l.loop-i.i _ (omega (arith, s.requires.0)) s.requires.1,
+      c.loop-i.invariant.1,
+      c.loop-i.invariant.2.next,
+      room c.args.table.now c.loop-i.i _ (omega (arith, c.requires.0)) c.requires.1,
     )
 
 pub loop-i-preserved : goal.loop-i-preserved
 loop-i-preserved c =
-    let w = c in
-    let n = w in
-    let l = n in
-    let s = l in
-    let table = s.args.table.now in
-    let below : l.loop-i.i < length table = omega (arith, s.requires.0) in
-    let more = put_as (ap number_line n.number.ensures) w.put_number_line-end.ensures in
-    let fits = room table l.loop-i.i _ below s.requires.1 in
-    (omega arith, w.put_number_line-end.auto.0 ∙ l.loop-i.invariant.1, put_as (lines_more number_line table l.loop-i.i below) (put_then l.loop-i.invariant.2 more (omega (arith, fits, more.next, l.loop-i.invariant.2.next))))
+    let table = c.args.table.now in
+    let below : c.loop-i.i < length table = omega (arith, c.requires.0) in
+    let more = put_as (ap number_line c.number.ensures) c.put_number_line-end.ensures in
+    let fits = room table c.loop-i.i _ below c.requires.1 in
+    (omega arith, c.put_number_line-end.auto.out ∙ c.loop-i.invariant.1, put_as (lines_more number_line table c.loop-i.i below) (put_then c.loop-i.invariant.2 more (omega (arith, fits, more.next, c.loop-i.invariant.2.next))))
 
 pub shape_of-out : goal.shape_of-out
 shape_of-out c = c.loop-i.invariant.1
 
 pub returns : goal.returns
 returns c =
-    let l = c in
-    let s = l in
-    put_as (ap (flat_map number_line) (take_all l.loop-i.i s.args.table.now (omega (arith, s.requires.0)))) l.loop-i.invariant.2
+    put_as (ap (flat_map number_line) (take_all c.loop-i.i c.args.table.now (omega (arith, c.requires.0)))) c.loop-i.invariant.2

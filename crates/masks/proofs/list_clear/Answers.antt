@@ -41,17 +41,16 @@ loop-k-smaller c = omega arith
 pub loop-k-preserved : goal.loop-k-preserved
 loop-k-preserved c =
     let l = c.loop-k in
-    let start = c in
-    let a = start.args in
+    let a = c.args in
     let m = c.number-m.result in
-    let is : m ≡ get_or mask_table l.k 0 = c.number-m.ensures ∙ ap (λ (t : List ℕ). get_or t l.k 0) start.requires.0 in (
+    let is : m ≡ get_or mask_table l.k 0 = c.number-m.ensures ∙ ap (λ (t : List ℕ). get_or t l.k 0) c.requires.0 in (
       omega arith,
       omega arith,
       omega (arith, c.if_clear-next.ensures, one-le (clear_of a.pattern m)),
       lists-more a.pattern m c.if_clear-next.result c.if_clear-next.ensures
           (clear_more a.pattern a.at l.k (omega arith) (omega arith)
           ∙ ap (λ (j : ℕ). clear_in a.pattern a.at l.k ++ cons_if (clear_of a.pattern j) j []) (sym is))
-          start.requires.3 (omega arith) l.invariant.3,
+          c.requires.3 (omega arith) l.invariant.3,
     )
 
 pub returns : goal.returns

@@ -33,13 +33,12 @@ overflow_add-next c =
 pub overflow_mul-m : goal.overflow_mul-m
 overflow_mul-m c =
     let l = c.loop-k in
-    let start = c in
-    let a = start.args in
+    let a = c.args in
     omega (
       arith,
       doubled a.first l.m l.k l.invariant.1,
       mul-le-mul_left a.first (pow_mono {i = l.k + 1} {j = a.count} (omega arith)),
-      start.requires.0,
+      c.requires.0,
     )
 
 pub overflow_add-k : goal.overflow_add-k
@@ -51,15 +50,14 @@ loop-k-smaller c = omega arith
 pub loop-k-preserved : goal.loop-k-preserved
 loop-k-preserved c =
     let l = c.loop-k in
-    let start = c in
-    let a = start.args in (
+    let a = c.args in (
       omega arith,
       doubled a.first l.m l.k l.invariant.1,
       omega (arith, c.if_clear-next.ensures, one-le (clear_of a.pattern l.m)),
       lists-more a.pattern l.m c.if_clear-next.result c.if_clear-next.ensures
           (runs-more a.pattern a.first l.k
           ∙ ap (λ (j : ℕ). clear_runs a.pattern a.first l.k ++ cons_if (clear_of a.pattern j) j []) (sym l.invariant.1))
-          start.requires.1 (omega arith) l.invariant.3,
+          c.requires.1 (omega arith) l.invariant.3,
     )
 
 pub returns : goal.returns

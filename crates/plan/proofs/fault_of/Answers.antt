@@ -8,12 +8,7 @@ use Rattle.plan.proofs.fault_of.Goals as goal
 
 pub returns : goal.returns
 returns c =
-    let p = c in
-    let g = p in
-    let w = g in
-    let f = w in
-    let u = f in
-    let a = u.args in
+    let a = c.args in
     c.first_fault.ensures
-    ∙ (λ i. first_fault a.r.ended (u.is_known-unknown.ensures i) (f.may_follow-follows.ensures i) (ltb a.left (w.width_of.ensures i))
-    (g.in_range-ranged.ensures i) (p.rises-above.ensures i))
+    ∙ (λ i. first_fault a.r.ended (c.is_known-unknown.ensures i) (c.may_follow-follows.ensures i) (ltb a.left (c.width_of.ensures i))
+    (c.in_range-ranged.ensures i) (c.rises-above.ensures i))

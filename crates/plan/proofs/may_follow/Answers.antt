@@ -17,19 +17,17 @@ returns-then-policy-ne0 c = simp (c.in-1.is, ne_eqb _ _ c.if-policy-ne0.true)
 pub returns-then-lock-ne0 : goal.returns-then-lock-ne0
 unfolding may_follow
 returns-then-lock-ne0 c =
-    let s = c in
-    let r = s.args.r in
+    let r = c.args.r in
     sym
-    (simp (c.in-1.is, locked-any r s.requires, task-count r s.requires, ne_eqb r.lock 0 c.if-lock-ne0.true)
+    (simp (c.in-1.is, locked-any r c.requires, task-count r c.requires, ne_eqb r.lock 0 c.if-lock-ne0.true)
     (and-false (is_zero r.policy && ltb r.count max_tasks)))
 
 pub returns-else-lock-ne0 : goal.returns-else-lock-ne0
 unfolding may_follow
 returns-else-lock-ne0 c =
-    let s = c in
-    let r = s.args.r in
+    let r = c.args.r in
     sym
-    (simp (c.in-1.is, locked-any r s.requires, task-count r s.requires, c.if-policy-ne0.false, c.if-lock-ne0.false)
+    (simp (c.in-1.is, locked-any r c.requires, task-count r c.requires, c.if-policy-ne0.false, c.if-lock-ne0.false)
     (and-true (ltb r.count max_tasks)))
 
 pub returns-then-policy-eq0 : goal.returns-then-policy-eq0

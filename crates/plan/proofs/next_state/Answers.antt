@@ -13,6 +13,5 @@ returns-then-l-ge-LABELS c = sym (next_past_table _ _ _ c.if-l-ge-LABELS.true)
 
 pub returns : goal.returns
 returns c =
-    let a = c in
-    ap (λ (k : ℕ). next_of (get_or a.args.next.now k 0)) c.pair-at.ensures
-    ∙ sym (next_in_table a.args.next.now _ _ a.requires c.if-l-ge-LABELS.false)
+    ap (λ (k : ℕ). next_of (get_or c.args.next.now k 0)) c.pair-at.ensures
+    ∙ sym (next_in_table c.args.next.now _ _ c.requires c.if-l-ge-LABELS.false)

@@ -34,6 +34,5 @@ returns-then-width-eq1 c =
 
 pub returns : goal.returns
 returns c =
-    let b = c in
-    let a = b.args in
-    two_bytes a.s.now a.at a.width _ _ (two_else b.requires.1 c.if-width-eq1.false) c.byte_at-first.ensures c.byte_at-second.ensures
+    let a = c.args in
+    two_bytes a.s.now a.at a.width _ _ (two_else c.requires.1 c.if-width-eq1.false) c.byte_at-first.ensures c.byte_at-second.ensures

@@ -8,6 +8,4 @@ use Rattle.plan.proofs.refused.Goals as goal
 
 pub returns : goal.returns
 returns c =
-    let t = c in
-    let r = t in
-    c.answer.ensures ∙ (λ i. answered (Faulty r.args.fault) (r.nothing_read.ensures i) (t.empty_table.ensures i))
+    c.answer.ensures ∙ (λ i. answered (Faulty c.args.fault) (c.nothing_read.ensures i) (c.empty_table.ensures i))

@@ -64,7 +64,7 @@ returns-then-c-eq9 c = rw c.if-c-eq9.true (c.with_lock.ensures _ _)
 
 pub with_lock-requires : goal.with_lock-requires
 with_lock-requires c =
-    let s = c in subst (λ (k : ℕ). Readable s.args.r k s.args.x) c.if-c-eq9.true s.requires.0
+    subst (λ (k : ℕ). Readable c.args.r k c.args.x) c.if-c-eq9.true c.requires.0
 
 pub returns : goal.returns
 returns c =

@@ -1,15 +1,11 @@
 -- `policy::age` meets its contract: the loop writes the cells from the front.
 -- Assumes nothing.
-use mathlib.Core.Path.{◌≡◌, refl, sym}
-use mathlib.Core.List.{map}
-use Prim.Native.Nat.{◌+◌, ◌-◌, ◌≤◌}
-use Rattle.model.specs.Bytes.{overwrite}
+use mathlib.Core.Path.{refl, sym}
+use Prim.Native.Nat.{◌+◌}
 use Rattle.model.specs.Limits.{max_tasks}
-use Rattle.model.specs.Lists.{up_from}
 use Rattle.words.proofs.Memory.{overwrite-none}
 use Rattle.policy.specs.View.{cell_count, staying_in, aged}
 use Rattle.words.proofs.Tables.{written-more, written_all}
-use borrow.Author.Rules.{rules}
 use native.Mathlib.Omega.{arith}
 use Rattle.policy.proofs.age.Goals as goal
 

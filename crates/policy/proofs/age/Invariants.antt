@@ -1,16 +1,12 @@
 -- `policy::age` meets its contract: the loop writes the cells from the front.
 -- Assumes nothing.
-use mathlib.Core.Path.{◌≡◌, refl, sym}
+use mathlib.Core.Path.{◌≡◌}
 use mathlib.Core.List.{map}
-use Prim.Native.Nat.{◌+◌, ◌-◌, ◌≤◌}
+use Prim.Native.Nat.{◌-◌, ◌≤◌}
 use Rattle.model.specs.Bytes.{overwrite}
 use Rattle.model.specs.Limits.{max_tasks}
 use Rattle.model.specs.Lists.{up_from}
-use Rattle.words.proofs.Memory.{overwrite-none}
-use Rattle.policy.specs.View.{cell_count, staying_in, aged}
-use Rattle.words.proofs.Tables.{written-more, written_all}
-use borrow.Author.Rules.{rules}
-use native.Mathlib.Omega.{arith}
+use Rattle.policy.specs.View.{cell_count, staying_in}
 use Rattle.policy.proofs.age.Given as goal
 
 abbrev pub invariant-loop-k : goal.invariant-loop-k

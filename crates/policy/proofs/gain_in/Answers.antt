@@ -3,7 +3,6 @@
 use mathlib.Core.Path.{ap}
 use borrow.Author.Tests.{eq-eqb, ne_eqb}
 use Rattle.model.specs.Plan.{Task}
-use borrow.Author.Rules.{rules}
 use Rattle.policy.proofs.gain_in.Goals as goal
 
 pub returns-then-work-last : goal.returns-then-work-last

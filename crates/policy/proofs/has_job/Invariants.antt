@@ -1,14 +1,9 @@
 -- `policy::has_job` meets its contract: the loop finds the greatest work.
 -- Assumes nothing.
-use mathlib.Core.Path.{◌≡◌, refl, sym, ap, ◌∙◌}
-use mathlib.Core.Bool.{cond}
-use Prim.Native.Nat.{ℕ, ◌-◌, ◌≤◌}
-use native.Mathlib.Numerals.{add-one}
-use native.Mathlib.Omega.{arith}
-use lib.Dec.{ltb}
+use mathlib.Core.Path.{◌≡◌}
+use Prim.Native.Nat.{◌-◌, ◌≤◌}
 use lib.ListN.{get_or}
-use borrow.Author.Rules.{rules}
-use Rattle.policy.specs.View.{slot_cells, greatest, has_job}
+use Rattle.policy.specs.View.{slot_cells, greatest}
 use Rattle.policy.proofs.has_job.Given as goal
 
 abbrev pub invariant-loop-k : goal.invariant-loop-k

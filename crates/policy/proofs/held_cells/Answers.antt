@@ -1,14 +1,9 @@
 -- `policy::held_cells` meets its contract: the loop writes the cells from the front.
 -- Assumes nothing.
-use mathlib.Core.Path.{◌≡◌, refl, sym}
-use mathlib.Core.List.{map}
-use Prim.Native.Nat.{◌-◌, ◌≤◌}
-use Rattle.model.specs.Bytes.{overwrite}
-use Rattle.model.specs.Lists.{up_from}
+use mathlib.Core.Path.{refl, sym}
 use Rattle.words.proofs.Memory.{overwrite-none}
 use Rattle.words.proofs.Tables.{written-more, written_all}
 use Rattle.policy.specs.View.{slot_cells, held_in, held_cells}
-use borrow.Author.Rules.{rules}
 use native.Mathlib.Omega.{arith}
 use Rattle.policy.proofs.held_cells.Goals as goal
 

@@ -1,7 +1,6 @@
 -- `policy::hold_in` meets its contract: all the work of a locked task.
 -- Assumes nothing.
 use mathlib.Core.Path.{sym, ap, ◌∙◌}
-use borrow.Author.Rules.{rules}
 use Rattle.model.specs.Plan.{Task}
 use Rattle.policy.proofs.hold_in.Goals as goal
 

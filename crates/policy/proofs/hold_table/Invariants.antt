@@ -1,16 +1,12 @@
 -- `policy::hold_table` meets its contract: the loop fills the table from the front.
 -- Assumes nothing.
-use mathlib.Core.Path.{◌≡◌, refl, sym}
+use mathlib.Core.Path.{◌≡◌}
 use mathlib.Core.List.{map}
 use Prim.Native.Nat.{◌-◌, ◌≤◌}
 use Rattle.model.specs.Bytes.{overwrite}
 use Rattle.model.specs.Lists.{up_from}
-use Rattle.words.proofs.Memory.{overwrite-none}
 use Rattle.plan.specs.View.{tasks_of}
 use Rattle.policy.specs.View.{slot_cells, hold_in}
-use Rattle.words.proofs.Tables.{written-more, written_all}
-use native.Mathlib.Omega.{arith}
-use borrow.Author.Rules.{rules}
 use Rattle.policy.proofs.hold_table.Given as goal
 
 abbrev pub invariant-loop-k : goal.invariant-loop-k

@@ -2,7 +2,6 @@
 -- Assumes nothing.
 use borrow.Author.Tests.{eq-eqb, ne_eqb}
 use Rattle.policy.specs.View.{key_in}
-use borrow.Author.Rules.{rules}
 use native.Mathlib.Omega.{arith}
 use Rattle.policy.proofs.key_of.Goals as goal
 
@@ -28,5 +27,4 @@ pub returns-in_default : goal.returns-in_default
 unfolding key_in
 returns-in_default c =
     let p = c.args.policy in
-    let r = c.in_default.in_default-own.rest in
-    rw (ne_eqb p 1 r.0.0.1, ne_eqb p 2 r.0.1, ne_eqb p 3 r.1) (omega (arith, c.key-in_default.ensures))
+    rw (ne_eqb p 1 (λ f. omega arith), ne_eqb p 2 (λ f. omega arith), ne_eqb p 3 (λ f. omega arith)) (omega (arith, c.key-in_default.ensures))

@@ -1,10 +1,6 @@
 -- `policy::left_table` meets its contract: the loop fills the table from the front.
 -- Assumes nothing.
-use mathlib.Core.Path.{◌≡◌, refl, sym}
-use mathlib.Core.List.{map}
-use Prim.Native.Nat.{◌-◌, ◌≤◌}
-use Rattle.model.specs.Bytes.{overwrite}
-use Rattle.model.specs.Lists.{up_from}
+use mathlib.Core.Path.{refl, sym}
 use Rattle.words.proofs.Memory.{overwrite-none}
 use Rattle.plan.specs.View.{tasks_of}
 use Rattle.policy.specs.View.{slot_cells, left_in}

@@ -8,7 +8,6 @@ use Rattle.model.specs.Plan.{Task}
 use Rattle.model.specs.Slot.{no_task}
 use Rattle.model.specs.Limits.{max_tasks}
 use Rattle.plan.specs.View.{tasks_of}
-use borrow.Author.Rules.{rules}
 use native.Mathlib.Omega.{arith}
 use Rattle.policy.proofs.new_work.Goals as goal
 

@@ -1,6 +1,5 @@
 -- `policy::rules_of` meets its contract. Assumes nothing.
 use mathlib.Core.Path.{refl}
-use borrow.Author.Rules.{rules}
 use Rattle.plan.specs.View.{plan_of}
 use Rattle.plan.proofs.View.{tasks-size}
 use Rattle.policy.proofs.Plans.{tasks_range}

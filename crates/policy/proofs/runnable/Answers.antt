@@ -2,7 +2,6 @@
 -- Assumes nothing.
 use mathlib.Core.Path.{sym, ap, ◌∙◌}
 use mathlib.Core.Bool.{cond}
-use borrow.Author.Rules.{rules}
 use Rattle.policy.specs.View.{held_cells, has_job, runnable_cells}
 use Rattle.policy.proofs.runnable.Goals as goal
 

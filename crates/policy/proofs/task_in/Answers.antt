@@ -9,7 +9,6 @@ use Rattle.model.specs.Slot.{no_task}
 use Rattle.plan.specs.declared.Task.{Task}
 use Rattle.plan.specs.View.{task_view, tasks_of}
 use Rattle.plan.proofs.View.{task-given}
-use borrow.Author.Rules.{rules}
 use native.Mathlib.Omega.{arith}
 use Rattle.policy.proofs.task_in.Goals as goal
 

@@ -1,7 +1,6 @@
 -- `policy::task_number` meets its contract: the cell's column.
 -- Assumes nothing.
 use native.Mathlib.Omega.{arith}
-use borrow.Author.Rules.{rules}
 use borrow.Author.Tests.{lt-ltb, le-ltb}
 use Rattle.policy.specs.View.{slot_cells}
 use Rattle.policy.proofs.task_number.Goals as goal

@@ -23,43 +23,39 @@ overflow_sub-u c = omega (arith, c.loop-number.invariant.0)
 
 pub node_holds-requires : goal.node_holds-requires
 node_holds-requires c =
-    let start = c in
     let l = c.loop-number in
-    (start.requires.0, start.requires.1, omega (arith, l.invariant.0), omega (arith, l.invariant.2, start.requires.2))
+    (c.requires.0, c.requires.1, omega (arith, l.invariant.0), omega (arith, l.invariant.2, c.requires.2))
 
 pub returns-then-not-node_holds : goal.returns-then-not-node_holds
-returns-then-not-node_holds c = let call = c in
-    let l = call.loop-number in
-    let a = call.args in record {
+returns-then-not-node_holds c = let l = c.loop-number in
+    let a = c.args in record {
       value = λ P d t.
           sym (edges-rows P d a.rules a.next.now a.m.now a.s.now a.claim t
           ∙ all_stops (row_ok P d a.claim a.rules a.m.now) (l.number - 1) a.claim.n (omega (arith, l.invariant.0))
-          (sym (call.node_holds.ensures.value P d t) ∙ c.if-not-node_holds.true));
-      notes_free = only_trans l.invariant.4 call.node_holds.ensures.notes_free;
+          (sym (c.node_holds.ensures.value P d t) ∙ c.if-not-node_holds.true));
+      notes_free = only_trans l.invariant.4 c.node_holds.ensures.notes_free;
     }
 
 pub overflow_add-number : goal.overflow_add-number
 overflow_add-number c =
-    let start = c in
-    record { fits = omega (arith, start.requires.1.test.holds.rows.index.few) }
+    record { fits = omega (arith, c.requires.1.test.holds.rows.index.few) }
 
 pub loop-number-smaller : goal.loop-number-smaller
 loop-number-smaller c = omega arith
 
 pub loop-number-preserved : goal.loop-number-preserved
 loop-number-preserved c =
-    let call = c in
-    let l = call.loop-number in
-    let a = call.args in
+    let l = c.loop-number in
+    let a = c.args in
     let more : l.number - 1 + 1 ≡ l.number + 1 - 1 = omega (arith, l.invariant.0) in (
       omega arith,
       omega arith,
-      call.node_holds.ensures.notes_free.long ∙ l.invariant.2,
+      c.node_holds.ensures.notes_free.long ∙ l.invariant.2,
       λ P d t.
           subst (λ (n : ℕ). all (row_ok P d a.claim a.rules a.m.now) (up_from 0 n) ≡ true) more
           (all-next (row_ok P d a.claim a.rules a.m.now) (l.number - 1) (l.invariant.3 P d t)
-          (sym (call.node_holds.ensures.value P d t) ∙ c.if-not-node_holds.false)),
-      only_trans l.invariant.4 call.node_holds.ensures.notes_free,
+          (sym (c.node_holds.ensures.value P d t) ∙ c.if-not-node_holds.false)),
+      only_trans l.invariant.4 c.node_holds.ensures.notes_free,
     )
 
 pub returns : goal.returns

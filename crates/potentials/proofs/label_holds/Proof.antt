@@ -22,31 +22,28 @@ use Rattle.potentials.proofs.label_holds.Tie as tie
 
 next-state-requires : tie.Need-next_state-to-requires
 next-state-requires c κs =
-    let start = c.before.before.before.before.before in
-    let a = start.args in
-    let g = start.requires.1 in
-    numbered-low g.plan (tasks_in a.setting.rules) a.m.now a.setting.claim.n g.test.holds g.test.planned.sound a.from.number a.from.node start.requires.2
+    let a = c.args in
+    let g = c.requires.1 in
+    numbered-low g.plan (tasks_in a.setting.rules) a.m.now a.setting.claim.n g.test.holds g.test.planned.sound a.from.number a.from.node c.requires.2
 
 returns : tie.Need-returns-then-to-eq0
 returns c =
-    let start = c.before.before.before.before.before.before.before in
-    let a = start.args in
+    let a = c.args in
     let read = c.next_state-to in (
       λ P d t.
-          label-not P d a.setting.rules a.next.now a.m.now a.s.now a.setting.claim t a.from.number a.from.node start.requires.2
+          label-not P d a.setting.rules a.next.now a.m.now a.s.now a.setting.claim t a.from.number a.from.node c.requires.2
           a.from.label read.result read.ensures c.if-to-eq0.true,
       only_refl,
     )
 
 reach-requires : tie.Need-reach-noted-requires
 reach-requires c κs =
-    let start = c.before.before.before.before.before.before.before.before in
-    let a = start.args in
-    let g = start.requires.1 in (
-      start.requires.0,
-      numbered-cells g.plan (tasks_in a.setting.rules) a.m.now a.setting.claim.n g.test.holds a.from.number a.from.node start.requires.2,
-      numbered-taken g.plan (tasks_in a.setting.rules) a.m.now a.setting.claim.n g.test.holds g.test.planned.sound a.from.number a.from.node start.requires.2,
-      start.requires.3,
+    let a = c.args in
+    let g = c.requires.1 in (
+      c.requires.0,
+      numbered-cells g.plan (tasks_in a.setting.rules) a.m.now a.setting.claim.n g.test.holds a.from.number a.from.node c.requires.2,
+      numbered-taken g.plan (tasks_in a.setting.rules) a.m.now a.setting.claim.n g.test.holds g.test.planned.sound a.from.number a.from.node c.requires.2,
+      c.requires.3,
     )
 
 cast-times : tie.Need-overflow_cast-done
@@ -63,10 +60,9 @@ small : (c : tie.After-potential) →
     let a = c.args in
     a.setting.claim.q * c.reach-noted.result.done.gain ≤ max_charge
 small c =
-    let start = c.before.before.before.before.before.before.before.before.before.before.before.before.before.before in
     let gain = c.reach-noted.result.done.gain in
     let byte : gain < 2 ^ 32 = omega (arith, c.struct_known-1.given) in
-    charge_small start.args.setting.claim.q gain start.requires.1.test.fits_q byte
+    charge_small c.args.setting.claim.q gain c.requires.1.test.fits_q byte
 
 -- the potential with it, before it is stored
 sum : (c : tie.After-potential) (d : Certificate) →
@@ -81,12 +77,11 @@ sum c d e =
 
 add-high : tie.Need-overflow_add-high
 add-high c =
-    let start = c.before.before.before.before.before.before.before.before.before.before.before.before.before.before in
-    let a = start.args in
-    let g = start.requires.1 in
+    let a = c.args in
+    let g = c.requires.1 in
     subst (SFits w64) (sym (sum c g.certificate g.test.read))
     (high_fits (potential_at g.certificate.potentials a.from.number) (a.setting.claim.q * c.reach-noted.result.done.gain) (small c)
-    (potential_small g.plan g.certificate a.setting.rules a.next.now a.m.now a.s.now a.setting.claim g.test a.from.number a.from.node start.requires.2))
+    (potential_small g.plan g.certificate a.setting.rules a.next.now a.m.now a.s.now a.setting.claim g.test a.from.number a.from.node c.requires.2))
 
 sub-state : tie.Need-overflow_sub-state
 sub-state c = search rules
@@ -101,30 +96,24 @@ high c d e = to_z-of_z {w = w64} (add-high c) ∙ sum c d e
 
 outcomes-hold-requires : tie.Need-outcomes_hold-requires
 outcomes-hold-requires c κs =
-    let call = c.before.before.before.before.before.before in
-    let read = call.before.before.before in
-    let start = read.before.before.before.before.before.before in
-    let a = start.args in
-    let g = start.requires.1 in
-    let low = numbered-taken g.plan (tasks_in a.setting.rules) a.m.now a.setting.claim.n g.test.holds g.test.planned.sound a.from.number a.from.node start.requires.2 in
-    label_charged g.plan g.certificate a.setting.rules a.next.now a.m.now a.s.now a.setting.claim g.test a.from.number a.from.node start.requires.2
-    a.from.label read.next_state-to.result read.next_state-to.ensures (omega (arith, call.if-to-eq0.false)) start.requires.0 low pattern_count
-    a.notes.now call.reach-noted.new.notes call.reach-noted.result call.reach-noted.ensures _ (high c.before g.certificate g.test.read) (small c.before)
+    let a = c.args in
+    let g = c.requires.1 in
+    let low = numbered-taken g.plan (tasks_in a.setting.rules) a.m.now a.setting.claim.n g.test.holds g.test.planned.sound a.from.number a.from.node c.requires.2 in
+    label_charged g.plan g.certificate a.setting.rules a.next.now a.m.now a.s.now a.setting.claim g.test a.from.number a.from.node c.requires.2
+    a.from.label c.next_state-to.result c.next_state-to.ensures (omega (arith, c.if-to-eq0.false)) c.requires.0 low pattern_count
+    a.notes.now c.reach-noted.new.notes c.reach-noted.result c.reach-noted.ensures _ (high c g.certificate g.test.read) (small c)
 
 returns-2 : tie.Need-returns
 returns-2 c =
-    let call = c.before.before.before.before.before.before.before in
-    let read = call.before.before.before in
-    let start = read.before.before.before.before.before.before in
-    let a = start.args in
-    let g = start.requires.1 in
-    let low = numbered-taken g.plan (tasks_in a.setting.rules) a.m.now a.setting.claim.n g.test.holds g.test.planned.sound a.from.number a.from.node start.requires.2 in (
+    let a = c.args in
+    let g = c.requires.1 in
+    let low = numbered-taken g.plan (tasks_in a.setting.rules) a.m.now a.setting.claim.n g.test.holds g.test.planned.sound a.from.number a.from.node c.requires.2 in (
       λ P d t.
           c.outcomes_hold.ensures d t.read
-          ∙ label-tested P d a.setting.rules a.next.now a.m.now a.s.now a.setting.claim t a.from.number a.from.node start.requires.2
-          a.from.label read.next_state-to.result read.next_state-to.ensures (omega (arith, call.if-to-eq0.false)) start.requires.0 low pattern_count
-          a.notes.now call.reach-noted.new.notes call.reach-noted.result call.reach-noted.ensures _ (high c.before.before d t.read),
-      call.reach-noted.ensures.only,
+          ∙ label-tested P d a.setting.rules a.next.now a.m.now a.s.now a.setting.claim t a.from.number a.from.node c.requires.2
+          a.from.label c.next_state-to.result c.next_state-to.ensures (omega (arith, c.if-to-eq0.false)) c.requires.0 low pattern_count
+          a.notes.now c.reach-noted.new.notes c.reach-noted.result c.reach-noted.ensures _ (high c.before d t.read),
+      c.reach-noted.ensures.only,
     )
 
 pub label_holds_spec : {M : Type 1} → statement M

@@ -37,16 +37,14 @@ decreases-loop setting next s u notes₀ m node labels label₀ notes label = la
 
 row-requires : tie.Need-row-row-requires invariant-loop decreases-loop
 row-requires c κs =
-    let start = c.before.before in
-    let index = start.requires.1.test.holds.rows.index in
-    (omega (arith, index.few, start.requires.2), index.room)
+    let index = c.requires.1.test.holds.rows.index in
+    (omega (arith, index.few, c.requires.2), index.room)
 
 node-of-requires : tie.Need-node_of-node-requires invariant-loop decreases-loop
 node-of-requires c κs =
-    let start = c.before.before.before in
-    let a = start.args in
-    let index = start.requires.1.test.holds.rows.index in
-    ap length c.row-row.ensures ∙ part_length a.m.now (row_bytes * a.u) row_bytes (omega (arith, index.few, index.room, start.requires.2))
+    let a = c.args in
+    let index = c.requires.1.test.holds.rows.index in
+    ap length c.row-row.ensures ∙ part_length a.m.now (row_bytes * a.u) row_bytes (omega (arith, index.few, index.room, c.requires.2))
 
 -- the node that is read
 named : (c : tie.After-node_of-node invariant-loop decreases-loop) →
@@ -69,16 +67,13 @@ loop-holds c = (omega arith, refl, λ P d t. refl, only_refl)
 
 label-holds-requires : tie.Need-label_holds-requires invariant-loop decreases-loop
 label-holds-requires c κs =
-    let start = c.before.before.before.before.before.before.before.before.before in
-    (start.requires.0, start.requires.1, record { below = start.requires.2; row = named c.before.before.before.before.before }, omega (arith, c.loop-label.invariant.1, start.requires.3))
+    (c.requires.0, c.requires.1, record { below = c.requires.2; row = named c.before.before.before.before.before }, omega (arith, c.loop-label.invariant.1, c.requires.3))
 
 -- the labels are all
 labels : (c : tie.At-loop-label invariant-loop decreases-loop) →
-    let start = c.before.before.before.before.before.before.before in
-    (1 * 2 ^ start.args.setting.rules.count) % 256 ≡ 2 ^ start.args.setting.rules.count
+    (1 * 2 ^ c.args.setting.rules.count) % 256 ≡ 2 ^ c.args.setting.rules.count
 labels c =
-    let start = c.before.before.before.before.before.before.before in
-    labels_shifted start.args.setting.rules.count (omega (arith, start.requires.0.size, start.requires.0.tasks.count))
+    labels_shifted c.args.setting.rules.count (omega (arith, c.requires.0.size, c.requires.0.tasks.count))
 
 -- the node's edges by labels
 by-labels : (c : tie.At-loop-label invariant-loop decreases-loop) (P : Plan) (d : Certificate) →
@@ -88,25 +83,23 @@ by-labels : (c : tie.At-loop-label invariant-loop decreases-loop) (P : Plan) (d 
     row_ok P d a.setting.claim a.setting.rules a.m.now a.u
     ≡ all (label_ok P d a.setting.claim a.u (node_of (tasks_in a.setting.rules) node)) (up_from 0 (2 ^ a.setting.rules.count))
 by-labels c P d t =
-    let start = c.before.before.before.before.before.before.before in
-    let a = start.args in
+    let a = c.args in
     let read = c.before.before.before in
     ap (λ (v : Node). all (edge_ok (nodes P) a.setting.claim.p a.setting.claim.q d.potentials a.u) (edges P (node_of (tasks_in a.setting.rules) v))) (sym (named read))
-    ∙ node-labels P d a.setting.rules a.next.now a.m.now a.s.now a.setting.claim t start.requires.0 a.u (node_of (tasks_in a.setting.rules) read.node_of-node.result)
+    ∙ node-labels P d a.setting.rules a.next.now a.m.now a.s.now a.setting.claim t c.requires.0 a.u (node_of (tasks_in a.setting.rules) read.node_of-node.result)
 
 returns : tie.Need-returns-then-not-label_holds invariant-loop decreases-loop
 returns c =
     let call = c.before in
     let head = call.before.before.before in
     let l = head.loop-label in
-    let start = head.before.before.before.before.before.before.before in
-    let a = start.args in
+    let a = c.args in
     let node = head.node_of-node.result in (
       λ P d t.
           sym (by-labels head P d t
           ∙ all_stops (label_ok P d a.setting.claim a.u (node_of (tasks_in a.setting.rules) node)) l.label (2 ^ a.setting.rules.count) (omega (arith, labels head))
-          (sym (call.label_holds.ensures.value P d t) ∙ c.if-not-label_holds.true)),
-      only_trans l.invariant.3 call.label_holds.ensures.notes_free,
+          (sym (call.label_holds.ensures.0 P d t) ∙ c.if-not-label_holds.true)),
+      only_trans l.invariant.3 call.label_holds.ensures.1,
     )
 
 add-label : tie.Need-overflow_add-label invariant-loop decreases-loop
@@ -118,25 +111,22 @@ loop-less c = omega arith
 loop-again : tie.Need-loop-label-preserved invariant-loop decreases-loop
 loop-again c =
     let call = c.before in
-    let head = call.before.before.before in
-    let l = head.loop-label in
-    let start = head.before.before.before.before.before.before.before in
-    let a = start.args in
-    let node = head.node_of-node.result in (
+    let l = c.loop-label in
+    let a = c.args in
+    let node = c.node_of-node.result in (
       omega arith,
-      call.label_holds.ensures.notes_free.long ∙ l.invariant.1,
+      call.label_holds.ensures.1.long ∙ l.invariant.1,
       λ P d t.
           all-next (label_ok P d a.setting.claim a.u (node_of (tasks_in a.setting.rules) node)) l.label (l.invariant.2 P d t)
-          (sym (call.label_holds.ensures.value P d t) ∙ c.if-not-label_holds.false),
-      only_trans l.invariant.3 call.label_holds.ensures.notes_free,
+          (sym (call.label_holds.ensures.0 P d t) ∙ c.if-not-label_holds.false),
+      only_trans l.invariant.3 call.label_holds.ensures.1,
     )
 
 returns-2 : tie.Need-returns invariant-loop decreases-loop
 returns-2 c =
     let head = c.before in
     let l = head.loop-label in
-    let start = head.before.before.before.before.before.before.before in
-    let a = start.args in
+    let a = c.args in
     let node = head.node_of-node.result in
     let done : l.label ≡ 2 ^ a.setting.rules.count = omega (arith, labels head) in (
       λ P d t.

@@ -44,8 +44,7 @@ best-score-requires c κs =
 
 -- the score that is read
 score : (c : tie.After-best_score-gain invariant-loop decreases-loop) →
-    let start = c.before.before.before.before.before.before.before in
-    let a = start.args in
+    let a = c.args in
     c.best_score-gain.result ≡ score_in a.notes.now a.out.count (pattern_in a.notes.now c.loop-k.k)
 score c =
     let a = c.args in
@@ -53,8 +52,7 @@ score c =
 
 sub-gain : tie.Need-overflow_sub-gain invariant-loop decreases-loop
 sub-gain c =
-    let start = c.before.before.before.before.before.before.before in
-    omega (arith, score c, start.requires.noted c.loop-k.k (omega arith))
+    omega (arith, score c, c.requires.noted c.loop-k.k (omega arith))
 
 -- what is charged
 charge : (c : tie.After-times invariant-loop decreases-loop) →
@@ -67,35 +65,30 @@ charge c =
 
 times-requires : tie.Need-times-requires invariant-loop decreases-loop
 times-requires c κs =
-    let start = c.before.before.before.before.before.before.before in
-    omega (arith, start.requires.fits_p)
+    omega (arith, c.requires.fits_p)
 
 -- the bound, before it is stored
 bound : (c : tie.After-times invariant-loop decreases-loop) →
-    let start = c.before.before.before.before.before.before.before.before in
-    let a = start.args in
+    let a = c.args in
     to_z w64 (of_z w64 a.high) -ℤ to_z w64 (of_z w64 c.times.result)
     ≡ a.high -ℤ pos (a.claim.p * gain_in a.notes.now a.out.count (pattern_in a.notes.now c.loop-k.k))
 bound c =
-    let start = c.before.before.before.before.before.before.before.before in
-    ap₂ (λ y z. y -ℤ z) (to_z-of_z {w = w64} start.ranges.high) (charge c)
+    ap₂ (λ y z. y -ℤ z) (to_z-of_z {w = w64} c.ranges.high) (charge c)
 
 sub-bound : tie.Need-overflow_sub-bound invariant-loop decreases-loop
 sub-bound c =
-    let start = c.before.before.before.before.before.before.before.before in
-    let a = start.args in
+    let a = c.args in
     let g = gain_in a.notes.now a.out.count (pattern_in a.notes.now c.loop-k.k) in
     subst (SFits w64) (sym (bound c))
     (bound_fits a.high (a.claim.p * g)
-    (charge_small a.claim.p g (omega (arith, start.requires.fits_p)) (omega (arith, score c.before, c.best_score-gain.type_inv)))
-    start.requires.fits_high)
+    (charge_small a.claim.p g (omega (arith, c.requires.fits_p)) (omega (arith, score c.before, c.best_score-gain.type_inv)))
+    c.requires.fits_high)
 
 target-holds-requires : tie.Need-target_holds-requires invariant-loop decreases-loop
 target-holds-requires c κs =
-    let start = c.before.before.before.before.before.before.before.before in
-    let a = start.args in
+    let a = c.args in
     subst (λ (p : ℕ). Findable a.s.now a.m.now a.claim.n (with_pattern a.out.cells a.out.state p)) (sym c.noted_pattern-taken.ensures.0)
-    (start.requires.found c.loop-k.k (omega arith))
+    (c.requires.found c.loop-k.k (omega arith))
 
 -- what one turn tests
 turn : (c : tie.After-target_holds invariant-loop decreases-loop) (d : Certificate) →
@@ -126,26 +119,24 @@ loop-less c = search rules
 
 loop-again : tie.Need-loop-k-preserved invariant-loop decreases-loop
 loop-again c =
-    let start = c.before.before.before.before.before.before.before.before.before.before in
-    let a = start.args in
+    let a = c.args in
     let l = c.loop-k in (
       omega arith,
       λ d e.
           let ok : ℤ → ℕ → Bool = λ z j.
           pattern_ok a.claim d.potentials a.notes.now a.out.count a.m.now a.out.cells a.out.state z (pattern_in a.notes.now j) in
           all-next (ok (to_z w64 (of_z w64 a.high))) l.k (l.invariant.1 d e)
-          (ap (λ (z : ℤ). ok z l.k) (to_z-of_z {w = w64} start.ranges.high) ∙ sym (turn c.before d e) ∙ c.if-not-target_holds.false),
+          (ap (λ (z : ℤ). ok z l.k) (to_z-of_z {w = w64} c.ranges.high) ∙ sym (turn c.before d e) ∙ c.if-not-target_holds.false),
     )
 
 returns-2 : tie.Need-returns invariant-loop decreases-loop
 returns-2 c d e =
-    let start = c.before.before.before.before.before in
-    let a = start.args in
+    let a = c.args in
     let l = c.loop-k in
     let ok : ℤ → ℕ → Bool = λ z p. pattern_ok a.claim d.potentials a.notes.now a.out.count a.m.now a.out.cells a.out.state z p in
     let all-passed : l.k ≡ a.out.count = omega arith in
     sym (all_map (ok a.high) (pattern_in a.notes.now) (up_from 0 a.out.count)
-    ∙ ap₂ (λ z n. all (λ j. ok z (pattern_in a.notes.now j)) (up_from 0 n)) (sym (to_z-of_z {w = w64} start.ranges.high)) (sym all-passed)
+    ∙ ap₂ (λ z n. all (λ j. ok z (pattern_in a.notes.now j)) (up_from 0 n)) (sym (to_z-of_z {w = w64} c.ranges.high)) (sym all-passed)
     ∙ l.invariant.1 d e)
 
 pub outcomes_hold_spec : {M : Type 1} → statement M

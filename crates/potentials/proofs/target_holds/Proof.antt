@@ -25,15 +25,13 @@ number c =
 
 potential-requires : tie.Need-potential-requires
 potential-requires c κs =
-    let start = c.before.before.before.before.before in
-    subst (HasPotential start.args.s.now) (sym (number c)) start.requires.potential
+    subst (HasPotential c.args.s.now) (sym (number c)) c.requires.potential
 
 returns : tie.Need-returns
 returns c d e =
-    let start = c.before.before.before.before.before.before in
     ap₂ le_z
     (to_z-of_z {w = w64} (record { sfits = c.potential.type_inv }) ∙ c.potential.ensures d e ∙ ap (potential_at d.potentials) (number c.before))
-    (to_z-of_z {w = w64} start.ranges.bound)
+    (to_z-of_z {w = w64} c.ranges.bound)
 
 pub target_holds_spec : {M : Type 1} → statement M
 target_holds_spec = tie.close (tie.spec row-of-requires find-requires potential-requires returns)

@@ -12,31 +12,27 @@ use Rattle.store.proofs.append.Goals as goal
 
 pub put_entry-requires : goal.put_entry-requires
 put_entry-requires c =
-    let called = c in
-    let start = called.before.before.before.before in
-    let h = called.hash-h in
-    (search rules, search rules, held_small start.args.m.now start.args.n called.entry-before.result h.result start.requires.0 h.ensures.1 called.entry-before.ensures)
+    let h = c.hash-h in
+    (search rules, search rules, held_small c.args.m.now c.args.n c.entry-before.result h.result c.requires.0 h.ensures.1 c.entry-before.ensures)
 
 pub returns : goal.returns
 returns c =
-    let called = c in
-    let start = called.before.before.before.before in
-    let m = start.args.m.now in
-    let n = start.args.n in
-    let row = start.args.row.now in
-    let h = called.hash-h in
-    let v = called.entry-before in
+    let m = c.args.m.now in
+    let n = c.args.n in
+    let row = c.args.row.now in
+    let h = c.hash-h in
+    let v = c.entry-before in
     let copied = c.copy in
     let chain = c.put_entry in
     let bucket = c.put_entry-2 in
-    let whole : part row 0 row_bytes ≡ row = take_all row_bytes row (omega (arith, start.requires.2)) in
-    let first : copied.new.1.1.0 ≡ with_row m n row
+    let whole : part row 0 row_bytes ≡ row = take_all row_bytes row (omega (arith, c.requires.2)) in
+    let first : copied.new.dst ≡ with_row m n row
     = ◌∙◌ {b = with_row m n (part row 0 row_bytes)} copied.ensures (ap (with_row m n) whole) in
-    let second : chain.new.0 ≡ chained m n row v.result
+    let second : chain.new.m ≡ chained m n row v.result
     = chain.ensures ∙ ap (λ (l : List ℕ). with_entry l chain_at n v.result) first in
-    let third : bucket.new.0 ≡ appended m n row v.result h.result
+    let third : bucket.new.m ≡ appended m n row v.result h.result
     = bucket.ensures ∙ ap (λ (l : List ℕ). with_entry l buckets_at h.result (n + 1)) second in
-    let small : v.result < 256 ^ 2 = held_small m n v.result h.result start.requires.0 h.ensures.1 v.ensures in
+    let small : v.result < 256 ^ 2 = held_small m n v.result h.result c.requires.0 h.ensures.1 v.ensures in
     subst (λ (l : List ℕ). Appended m l n row) (sym third)
-    (appends m (appended m n row v.result h.result) n row v.result h.result start.requires.0 start.requires.1 h.ensures.0 v.ensures
-    (written m n row v.result h.result start.requires.0.room start.requires.1 start.requires.2 h.ensures.1 small))
+    (appends m (appended m n row v.result h.result) n row v.result h.result c.requires.0 c.requires.1 h.ensures.0 v.ensures
+    (written m n row v.result h.result c.requires.0.room c.requires.1 c.requires.2 h.ensures.1 small))

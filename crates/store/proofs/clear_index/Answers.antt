@@ -1,5 +1,4 @@
 -- `store::clear_index` meets its contract. Assumes nothing.
-use borrow.Author.Rules.{rules}
 use Rattle.store.proofs.Tables.{cleared-index}
 use Rattle.store.proofs.clear_index.Goals as goal
 

@@ -1,13 +1,12 @@
 -- `store::hash` meets its contract: so far h is the hash of the first k words. The measure is how many words are left.
 -- Assumes nothing.
 use mathlib.Core.Path.{◌≡◌, refl, sym, ap, ap₂, subst, ◌∙◌}
-use Prim.Native.Nat.{ℕ, ◌+◌, ◌-◌, ◌*◌, ◌/◌, ◌≤◌, ◌<◌}
+use Prim.Native.Nat.{ℕ, ◌+◌, ◌*◌, ◌/◌, ◌<◌}
 use native.Mathlib.Numerals.{add-one}
 use native.Mathlib.Omega.{arith}
-use borrow.Author.Rules.{rules}
 use Rattle.model.specs.Bytes.{number, part}
 use Rattle.words.proofs.Words.{number_more}
-use Rattle.store.specs.Store.{hashes, hash_base, hash_step, hash_words, cell_bytes, hash_of}
+use Rattle.store.specs.Store.{hashes, hash_step, hash_words, cell_bytes, hash_of}
 use Rattle.store.proofs.Rows.{hash_lt}
 use Rattle.store.proofs.hash.Goals as goal
 

@@ -3,7 +3,6 @@ use mathlib.Core.Path.{◌≡◌, ◌∙◌}
 use Prim.Native.Nat.{◌*◌}
 use native.Mathlib.Omega.{arith}
 use lib.ListN.{length, replicate}
-use borrow.Author.Rules.{rules}
 use Rattle.model.specs.Bytes.{overwrite}
 use Rattle.words.proofs.Memory.{overwrite-all, part_length}
 use Rattle.store.specs.Store.{row_bytes, row_at}

@@ -1,16 +1,9 @@
 -- `store::same_row` meets its contract. The invariant of its loop: the first `same` bytes are equal. The measure is what is left of the row.
 -- Assumes nothing.
-use mathlib.Core.Path.{◌≡◌, sym, ap, ◌∙◌}
-use mathlib.Core.List.{List}
+use mathlib.Core.Path.{◌≡◌}
 use Prim.Native.Nat.{ℕ, ◌+◌, ◌*◌, ◌-◌, ◌≤◌, ◌<◌}
-use native.Mathlib.Omega.{arith}
 use lib.ListN.{get_or}
-use borrow.Author.Count.{below_none, below_more}
-use borrow.Author.Rules.{rules}
-use Rattle.store.specs.Store.{row_bytes, row_at}
-use Rattle.store.proofs.Rows.{row-byte, row_ext}
-use Rattle.model.proofs.Tests.{same_numbers_lem}
-use Rattle.store.proofs.Search.{other_numbers}
+use Rattle.store.specs.Store.{row_bytes}
 use Rattle.store.proofs.same_row.Given as goal
 
 abbrev pub invariant-loop-same : goal.invariant-loop-same

@@ -12,21 +12,14 @@ put_bytes-word-requires c = omega (arith, c.requires, refused-length c.args.n)
 
 pub put_number-number-requires : goal.put_number-number-requires
 put_number-number-requires c =
-    let w = c in
-    omega (arith, w.put_bytes-word.ensures.next, refused-length w.args.n)
+    omega (arith, c.put_bytes-word.ensures.next, refused-length c.args.n)
 
 pub put_bytes-requires : goal.put_bytes-requires
 put_bytes-requires c =
-    let n = c in
-    let w = n in
-    omega (arith, n.put_number-number.ensures.next, w.put_bytes-word.ensures.next, refused-length w.args.n)
+    omega (arith, c.put_number-number.ensures.next, c.put_bytes-word.ensures.next, refused-length c.args.n)
 
 pub returns : goal.returns
 unfolding refused_line
 returns c =
-    let b = c in
-    let n = b in
-    let w = n in
-    let s = w in
-    let number = put_join _ _ _ 0 _ _ _ _ (omega (arith, s.requires, refused-length s.args.n)) w.put_bytes-word.ensures n.put_number-number.ensures in
-    put_join _ _ _ 0 _ _ _ _ (omega (arith, s.requires, refused-length s.args.n)) number b.put_bytes.ensures
+    let number = put_join _ _ _ 0 _ _ _ _ (omega (arith, c.requires, refused-length c.args.n)) c.put_bytes-word.ensures c.put_number-number.ensures in
+    put_join _ _ _ 0 _ _ _ _ (omega (arith, c.requires, refused-length c.args.n)) number c.put_bytes.ensures

@@ -9,29 +9,19 @@ use Rattle.text.proofs.put_three_fields.Goals as goal
 
 pub put_field-a-requires : goal.put_field-a-requires
 put_field-a-requires c =
-    let s = c in
-    omega (arith, s.requires, three_length s.args.x s.args.y s.args.z)
+    omega (arith, c.requires, three_length c.args.x c.args.y c.args.z)
 
 pub put_field-b-requires : goal.put_field-b-requires
 put_field-b-requires c =
-    let a = c in
-    let s = a in
-    omega (arith, s.requires, a.put_field-a.ensures.next, three_length s.args.x s.args.y s.args.z)
+    omega (arith, c.requires, c.put_field-a.ensures.next, three_length c.args.x c.args.y c.args.z)
 
 pub put_field-requires : goal.put_field-requires
 put_field-requires c =
-    let b = c in
-    let a = b in
-    let s = a in
-    omega (arith, s.requires, a.put_field-a.ensures.next, b.put_field-b.ensures.next, three_length s.args.x s.args.y s.args.z)
+    omega (arith, c.requires, c.put_field-a.ensures.next, c.put_field-b.ensures.next, three_length c.args.x c.args.y c.args.z)
 
 pub returns : goal.returns
 returns c =
-    let d = c in
-    let b = d in
-    let a = b in
-    let s = a in
-    let x = s.args in
+    let x = c.args in
     let all = three_length x.x x.y x.z in
-    let two = put_join _ _ _ _ _ _ _ _ (omega (arith, s.requires, all)) a.put_field-a.ensures b.put_field-b.ensures in
-    put_join _ _ _ _ _ _ _ _ (omega (arith, s.requires, all, length-append (field x.x) (field x.y))) two d.put_field.ensures
+    let two = put_join _ _ _ _ _ _ _ _ (omega (arith, c.requires, all)) c.put_field-a.ensures c.put_field-b.ensures in
+    put_join _ _ _ _ _ _ _ _ (omega (arith, c.requires, all, length-append (field x.x) (field x.y))) two c.put_field.ensures

@@ -1,6 +1,5 @@
 -- `widen::masks_at` meets its contract: each mask is a byte, and has two bytes in the sum.
 -- Assumes nothing.
-use borrow.Author.Rules.{rules}
 use Rattle.widen.proofs.Masks.{masks-packed}
 use Rattle.widen.proofs.masks_at.Goals as goal
 

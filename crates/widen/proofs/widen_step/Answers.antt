@@ -3,7 +3,6 @@
 use mathlib.Core.Path.{ap, ◌∙◌}
 use Prim.Native.Nat.{◌+◌}
 use lib.ListN.{get_or}
-use borrow.Author.Rules.{rules}
 use Rattle.model.specs.Edition.{long_reads}
 use Rattle.model.specs.Bytes.{overwrite}
 use Rattle.model.specs.Certificate.{step_bytes}

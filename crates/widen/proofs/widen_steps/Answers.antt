@@ -1,10 +1,6 @@
 -- `widen::widen_steps` meets its contract: before each step those so far are written.
 -- Assumes nothing.
-use mathlib.Core.Path.{◌≡◌, refl, ap, ◌∙◌}
-use Prim.Native.Nat.{ℕ, ◌+◌, ◌*◌, ◌-◌, ◌≤◌}
-use native.Mathlib.Omega.{arith}
-use lib.ListN.{length}
-use borrow.Author.Rules.{rules}
+use Rattle.std.proofs.Common.{arith, refl, ap, ◌≡◌, ◌∙◌, ℕ, ◌+◌, ◌*◌}
 use Rattle.model.specs.Edition.{first_edition, long_reads}
 use Rattle.model.specs.Bytes.{overwrite}
 use Rattle.model.specs.Certificate.{step_bytes, step_width}
@@ -13,30 +9,20 @@ use Rattle.widen.proofs.Steps.{written, written_none, written-more}
 use Rattle.widen.proofs.widen_steps.Goals as goal
 
 pub loop-i-init : goal.loop-i-init
-loop-i-init c =
-    let a = c.args in
-    (omega arith, refl, written_none first_edition long_reads a.s.now a.from a.out.now a.at)
+loop-i-init c = (omega arith, refl, written_none first_edition long_reads c.args.s.now c.args.from c.args.out.now c.args.at)
 
 pub loop-i-preserved : goal.loop-i-preserved
 loop-i-preserved c =
-    let w = c in
-    let l = c in
-    let s = l in
-    let a = s.args in
-    let i = l.loop-i.i in (
+    let a = c.args in
+    let i = c.loop-i.i in (
       omega arith,
-      w.widen_step.auto.1.1.0 ∙ l.loop-i.invariant.1,
-      w.widen_step.ensures
-          ∙ ap (λ m. overwrite m (a.at + step_size * i) (step_bytes long_reads (step_in first_edition a.s.now (a.from + step_width first_edition * i)))) l.loop-i.invariant.2
-          ∙ written-more first_edition long_reads a.s.now a.from a.out.now a.at i (omega (arith, s.requires.n_in_bounds_2, w.loop-i-test.true)),
+      c.widen_step.auto.out ∙ c.loop-i.invariant.1,
+      c.widen_step.ensures
+          ∙ ap (λ m. overwrite m (a.at + step_size * i) (step_bytes long_reads (step_in first_edition a.s.now (a.from + step_width first_edition * i)))) c.loop-i.invariant.2
+          ∙ written-more first_edition long_reads a.s.now a.from a.out.now a.at i (omega (arith, c.requires.n_in_bounds_2, c.loop-i-test.true)),
     )
-
-pub shape_of-out : goal.shape_of-out
-shape_of-out c = c.loop-i.invariant.1
 
 pub returns : goal.returns
 returns c =
-    let a = c.args in
-    let l = c.loop-i in
-    let all : l.i ≡ a.n = omega (arith, l.invariant.0, c.loop-i-test.false) in
-    l.invariant.2 ∙ ap (λ (k : ℕ). overwrite a.out.now a.at (written first_edition long_reads a.s.now a.from k)) all
+    let all : c.loop-i.i ≡ c.args.n = omega arith in
+    c.loop-i.invariant.2 ∙ ap (λ (k : ℕ). overwrite c.args.out.now c.args.at (written first_edition long_reads c.args.s.now c.args.from k)) all

@@ -1,15 +1,11 @@
 -- `widen::widen_steps` meets its contract: before each step those so far are written.
 -- Assumes nothing.
-use mathlib.Core.Path.{◌≡◌, refl, ap, ◌∙◌}
-use Prim.Native.Nat.{ℕ, ◌+◌, ◌*◌, ◌-◌, ◌≤◌}
-use native.Mathlib.Omega.{arith}
+use mathlib.Core.Path.{◌≡◌}
+use Prim.Native.Nat.{◌-◌, ◌≤◌}
 use lib.ListN.{length}
-use borrow.Author.Rules.{rules}
 use Rattle.model.specs.Edition.{first_edition, long_reads}
 use Rattle.model.specs.Bytes.{overwrite}
-use Rattle.model.specs.Certificate.{step_bytes, step_width}
-use Rattle.certificate.specs.View.{step_size, step_in}
-use Rattle.widen.proofs.Steps.{written, written_none, written-more}
+use Rattle.widen.proofs.Steps.{written}
 use Rattle.widen.proofs.widen_steps.Given as goal
 
 abbrev pub invariant-loop-i : goal.invariant-loop-i

@@ -8,6 +8,5 @@ use Rattle.words.proofs.write_i64.Goals as goal
 
 pub returns : goal.returns
 returns c =
-    let start = c in
     c.write_u64.ensures
-    ∙ ap (λ (n : ℕ). overwrite start.args.s.now start.args.at (bytes 8 n)) (c.unsigned.ensures ∙ ap complement (to_z-of_z start.ranges.v))
+    ∙ ap (λ (n : ℕ). overwrite c.args.s.now c.args.at (bytes 8 n)) (c.unsigned.ensures ∙ ap complement (to_z-of_z c.ranges.v))
