@@ -35,13 +35,11 @@ loop-k-smaller c = omega arith
 
 pub loop-k-preserved : goal.loop-k-preserved
 loop-k-preserved c =
-    let l = c in
-    let k = l.loop-k.k in
-    let t = l.empty_table-next in
-    (omega arith, written-more (pair_entry l.args.gap) 0 t.result 0 k k k (omega arith) (omega arith) (omega (arith, size t.ensures)) c.entry.ensures l.loop-k.invariant.1)
+    let k = c.loop-k.k in
+    let t = c.empty_table-next in
+    (omega arith, written-more (pair_entry c.args.gap) 0 t.result 0 k k k (omega arith) (omega arith) (omega (arith, size t.ensures)) c.entry.ensures c.loop-k.invariant.1)
 
 pub returns : goal.returns
 returns c =
-    let l = c in
-    let t = l.empty_table-next in
-    written_all (pair_entry l.args.gap) 0 t.result l.loop-k.k pair_count (omega arith) (sym (size t.ensures)) l.loop-k.invariant.1
+    let t = c.empty_table-next in
+    written_all (pair_entry c.args.gap) 0 t.result c.loop-k.k pair_count (omega arith) (sym (size t.ensures)) c.loop-k.invariant.1

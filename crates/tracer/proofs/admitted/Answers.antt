@@ -49,21 +49,18 @@ next_state-to-requires c = c.loop-i.invariant.fits
 
 pub returns-then-to-eq0 : goal.returns-then-to-eq0
 returns-then-to-eq0 c =
-    let l = c in
-    refused _ _ _ _ _ l.loop-i.invariant c.loop-i-test.true c.next_state-to.ensures c.if-to-eq0.true
+    refused _ _ _ _ _ c.loop-i.invariant c.loop-i-test.true c.next_state-to.ensures c.if-to-eq0.true
 
 pub overflow_sub-state : goal.overflow_sub-state
 overflow_sub-state c = let h = c.if-to-eq0.false in omega arith
 
 pub loop-i-preserved : goal.loop-i-preserved
 loop-i-preserved c =
-    let l = c in
     let n = c.next_state-to.result in
     let more : n ≡ suc (n - 1) = let h = c.if-to-eq0.false in omega arith in
-    rw (add-one l.loop-i.i)
-    (next-state _ _ _ _ _ l.loop-i.invariant c.loop-i-test.true c.next_state-to.ensures l.requires (n - 1) more)
+    rw (add-one c.loop-i.i)
+    (next-state _ _ _ _ _ c.loop-i.invariant c.loop-i-test.true c.next_state-to.ensures c.requires (n - 1) more)
 
 pub returns : goal.returns
 returns c P e =
-    let l = c in
-    sym (l.loop-i.invariant.rest P e ∙ ap (λ (ls : List ℕ). admits_from P ls l.loop-i.state) (drop_of_length-le _ c.loop-i-test.false))
+    sym (c.loop-i.invariant.rest P e ∙ ap (λ (ls : List ℕ). admits_from P ls c.loop-i.state) (drop_of_length-le _ c.loop-i-test.false))
