@@ -9,12 +9,6 @@ use Rattle.plan_bytes.proofs.write_locks.Goals as goal
 pub loop-i-init : goal.loop-i-init
 loop-i-init c = (omega arith, refl, put-none _ _)
 
-pub offset_bounds-tasks-i : goal.offset_bounds-tasks-i
-offset_bounds-tasks-i c = omega arith
-
-pub bounds-tasks-i : goal.bounds-tasks-i
-bounds-tasks-i c = omega arith
-
 pub write_lock-end-requires : goal.write_lock-end-requires
 write_lock-end-requires c =
     (omega arith, omega (arith, c.requires.1, c.loop-i.invariant.1, c.loop-i.invariant.2.next, lock-fits c.args.tasks c.args.count c.loop-i.i (omega arith) (omega arith)))
@@ -25,9 +19,6 @@ loop-i-preserved c =
     let more = c.write_lock-end.ensures in
     let fits = lock-fits a.tasks a.count c.loop-i.i (omega arith) (omega arith) in
     (omega arith, c.write_lock-end.auto.out ∙ c.loop-i.invariant.1, locks-more a.tasks c.loop-i.i (omega arith) c.loop-i.invariant.2 more (omega (arith, fits, c.requires.1, more.next, c.loop-i.invariant.2.next)))
-
-pub shape_of-out : goal.shape_of-out
-shape_of-out c = c.loop-i.invariant.1
 
 pub returns : goal.returns
 returns c =

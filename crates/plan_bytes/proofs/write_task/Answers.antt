@@ -22,9 +22,6 @@ two_bytes w v e h =
     let high : v / 256 < 256 = omega arith in
     ap (λ (k : ℕ). k ∷ v % 256 ∷ []) (sym (mod-eq_of_lt high)) ∙ ap (λ (k : ℕ). bytes k v) (sym e)
 
-pub write_four-requires : goal.write_four-requires
-write_four-requires c =  omega (arith, c.requires.1, c.if-edition-eq1.true)
-
 pub returns-then-edition-eq1 : goal.returns-then-edition-eq1
 returns-then-edition-eq1 c =
     put_as (ap (λ (l : List ℕ). 0x01 ∷ c.args.t.work ∷ c.args.t.window ∷ l) (one_byte _ c.args.t.value c.if-edition-eq1.true)) c.write_four.ensures

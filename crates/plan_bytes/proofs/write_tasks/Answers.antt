@@ -20,12 +20,6 @@ room w i n h = omega (arith, mul-suc w i, mul-le-mul_left w h)
 pub loop-i-init : goal.loop-i-init
 loop-i-init c = (omega arith, omega arith, refl, put-none _ 0)
 
-pub offset_bounds-tasks-i : goal.offset_bounds-tasks-i
-offset_bounds-tasks-i c = omega arith
-
-pub bounds-tasks-i : goal.bounds-tasks-i
-bounds-tasks-i c = omega arith
-
 pub write_task-end-requires : goal.write_task-end-requires
 write_task-end-requires c =
     (c.requires.2, omega (arith, c.requires.1, c.loop-i.invariant.1, c.loop-i.invariant.2, room (task_width (edition_of c.args.edition)) c.loop-i.i c.args.count (omega arith)))
@@ -40,9 +34,6 @@ loop-i-preserved c =
     omega (arith, c.loop-i.invariant.1, more.next, task-length e (task_view t), mul-suc (task_width e) c.loop-i.i, ap (λ (k : ℕ). task_width e * k) (add-one c.loop-i.i)) in
     let below : task_width e * (c.loop-i.i + 1) ≤ task_width e * a.count = mul-le-mul_left (task_width e) (omega arith) in
     (omega arith, fits, c.write_task-end.auto.out ∙ c.loop-i.invariant.2, tasks-more e a.tasks c.loop-i.i (omega arith) c.loop-i.invariant.3 more (omega (arith, fits, below, c.requires.1)))
-
-pub shape_of-out : goal.shape_of-out
-shape_of-out c = c.loop-i.invariant.2
 
 pub returns : goal.returns
 returns c =
