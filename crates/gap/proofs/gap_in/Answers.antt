@@ -8,13 +8,13 @@ use Rattle.gap.proofs.Answers.{no_gap, long_gap, no_task_lem, foreign-task, gap_
 use Rattle.gap.proofs.gap_in.Goals as goal
 
 pub returns-then-slots-lt1 : goal.returns-then-slots-lt1
-returns-then-slots-lt1 c =  no_gap c.args.plan c.requires.0 c.args.set c.args.slots _ c.if-slots-lt1.true
+returns-then-slots-lt1 c = no_gap c.args.plan c.requires.0 c.args.set c.args.slots _ c.if-slots-lt1.true
 
 pub returns-then-slots-gt-MAX_GAP : goal.returns-then-slots-gt-MAX_GAP
-returns-then-slots-gt-MAX_GAP c =  long_gap c.args.plan c.requires.0 c.args.set c.args.slots _ c.if-slots-gt-MAX_GAP.true
+returns-then-slots-gt-MAX_GAP c = long_gap c.args.plan c.requires.0 c.args.set c.args.slots _ c.if-slots-gt-MAX_GAP.true
 
 pub returns-then-set-lt1 : goal.returns-then-set-lt1
-returns-then-set-lt1 c =  no_task_lem c.args.plan c.requires.0 c.args.set c.args.slots _ c.if-set-lt1.true
+returns-then-set-lt1 c = no_task_lem c.args.plan c.requires.0 c.args.set c.args.slots _ c.if-set-lt1.true
 
 pub returns-then-labels-set : goal.returns-then-labels-set
 returns-then-labels-set c =

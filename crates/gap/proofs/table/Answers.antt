@@ -18,21 +18,6 @@ size e = ap length e ∙ length-replicate {A = ℕ} pair_count 0
 pub loop-k-init : goal.loop-k-init
 loop-k-init c = (omega arith, sym (overwrite-none _ 0))
 
-pub overflow_cast-k : goal.overflow_cast-k
-overflow_cast-k c = omega arith
-
-pub overflow_cast-k-in-loop-k : goal.overflow_cast-k-in-loop-k
-overflow_cast-k-in-loop-k c = omega arith
-
-pub bounds-next-k : goal.bounds-next-k
-bounds-next-k c = omega arith
-
-pub overflow_add-k : goal.overflow_add-k
-overflow_add-k c = omega arith
-
-pub loop-k-smaller : goal.loop-k-smaller
-loop-k-smaller c = omega arith
-
 pub loop-k-preserved : goal.loop-k-preserved
 loop-k-preserved c =
     let k = c.loop-k.k in
