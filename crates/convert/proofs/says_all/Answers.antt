@@ -1,20 +1,17 @@
 -- `convert::says_all` meets its contract: the tasks from i on decide.
 -- Assumes nothing.
-use mathlib.Core.Path.{refl, sym, ◌∙◌}
+use mathlib.Core.Path.{sym, ◌∙◌}
 use Prim.Native.Nat.{◌≤◌}
 use native.Mathlib.Omega.{arith}
 use lib.ListN.{length}
 use Rattle.node.specs.Edition.{edition_of}
 use Rattle.plan.specs.declared.Plan.{Plan}
 use Rattle.plan.specs.View.{Sized}
-use Rattle.convert.proofs.Tasks.{Left, next-task, no_task-left}
+use Rattle.convert.proofs.Tasks.{next-task, no_task-left}
 use Rattle.convert.proofs.says_all.Goals as goal
 
 room : (p : Plan) → Sized p → p.count ≤ length p.tasks
 room p s = omega (arith, s.fits, s.room)
-
-pub loop-i-init : goal.loop-i-init
-loop-i-init c = (omega arith, refl)
 
 pub offset_bounds-tasks-i : goal.offset_bounds-tasks-i
 offset_bounds-tasks-i c = omega (arith, room c.args.plan c.requires)
