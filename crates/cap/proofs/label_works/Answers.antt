@@ -33,13 +33,11 @@ loop-l-smaller c = omega arith
 
 pub loop-l-preserved : goal.loop-l-preserved
 loop-l-preserved c =
-    let head = c in
-    let l = head.loop-l.l in (
+    let l = c.loop-l.l in (
       omega arith,
-      written-more (label_work (tasks_of head.args.tasks head.args.count)) 0 _ 0 l l l (omega arith) (omega arith) c.loop-l-test.true c.label_work.ensures head.loop-l.invariant.1,
+      written-more (label_work (tasks_of c.args.tasks c.args.count)) 0 _ 0 l l l (omega arith) (omega arith) c.loop-l-test.true c.label_work.ensures c.loop-l.invariant.1,
     )
 
 pub returns : goal.returns
 returns c =
-    let head = c in
-    written_all (label_work (tasks_of head.args.tasks head.args.count)) 0 _ head.loop-l.l label_count (omega arith) refl head.loop-l.invariant.1
+    written_all (label_work (tasks_of c.args.tasks c.args.count)) 0 _ c.loop-l.l label_count (omega arith) refl c.loop-l.invariant.1

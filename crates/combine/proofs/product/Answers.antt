@@ -29,21 +29,18 @@ bounds-order-k c = omega (arith, c.loop-k.invariant.numbering.few)
 
 pub explore-row-requires : goal.explore-row-requires
 explore-row-requires c =
-    let s = c in
-    (s.requires.0, s.requires.1, s.requires.2, c.loop-k.invariant.numbering)
+    (c.requires.0, c.requires.1, c.requires.2, c.loop-k.invariant.numbering)
 
 pub returns-then-states-gt-MAX_STATES : goal.returns-then-states-gt-MAX_STATES
 returns-then-states-gt-MAX_STATES c =
-    let e = c in
-    let l = e in
-    reached-many _ _ _ _ _ _ l.loop-k.states l.loop-k.k l.loop-k.invariant (omega arith) _ _ e.explore-row.result e.explore-row.ensures c.if-states-gt-MAX_STATES.true
+    reached-many _ _ _ _ _ _ c.loop-k.states c.loop-k.k c.loop-k.invariant (omega arith) _ _ c.explore-row.result c.explore-row.ensures c.if-states-gt-MAX_STATES.true
 
 pub overflow_mul-k : goal.overflow_mul-k
 overflow_mul-k c = omega (arith, c.loop-k.invariant.numbering.few)
 
 pub copy-requires : goal.copy-requires
-copy-requires c = let e = c in
-    let i = e.loop-k.invariant in record { n_in_bounds = omega (arith, e.explore-row.ensures.size); n_in_bounds_2 = omega (arith, i.numbering.few, i.size) }
+copy-requires c =
+    let i = c.loop-k.invariant in record { n_in_bounds = omega (arith, c.explore-row.ensures.size); n_in_bounds_2 = omega (arith, i.numbering.few, i.size) }
 
 pub overflow_add-k : goal.overflow_add-k
 overflow_add-k c = omega (arith, c.loop-k.invariant.numbering.few)
@@ -53,13 +50,9 @@ loop-k-smaller c = omega (arith, c.loop-k.invariant.numbering.few)
 
 pub loop-k-preserved : goal.loop-k-preserved
 loop-k-preserved c =
-    let w = c in
-    let e = w in
-    let l = e in
-    reached-next _ _ _ _ _ _ l.loop-k.states l.loop-k.k l.loop-k.invariant (omega arith) _ _ e.explore-row.result e.explore-row.ensures (omega (arith, w.if-states-gt-MAX_STATES.false))
-    _ w.copy.ensures
+    reached-next _ _ _ _ _ _ c.loop-k.states c.loop-k.k c.loop-k.invariant (omega arith) _ _ c.explore-row.result c.explore-row.ensures (omega (arith, c.if-states-gt-MAX_STATES.false))
+    _ c.copy.ensures
 
 pub returns : goal.returns
 returns c =
-    let l = c in
-    reached-all _ _ _ _ _ _ l.loop-k.states l.loop-k.k l.loop-k.invariant l.requires.2 (omega arith)
+    reached-all _ _ _ _ _ _ c.loop-k.states c.loop-k.k c.loop-k.invariant c.requires.2 (omega arith)

@@ -7,5 +7,4 @@ use Rattle.controller.proofs.registers_after.Goals as goal
 
 pub returns : goal.returns
 returns c P part =
-    let w = c in
-    c.registers.ensures (tasks_in w.args.controller.rules) ∙ ap model.registers (w.run_writes-block.ensures.is P part)
+    c.registers.ensures (tasks_in c.args.controller.rules) ∙ ap model.registers (c.run_writes-block.ensures.is P part)

@@ -12,10 +12,7 @@ step-after-requires c = c.loop-i.invariant.ready
 
 pub loop-i-preserved : goal.loop-i-preserved
 loop-i-preserved c =
-    let b = c in
-    let t = b in
-    let l = t in
-    reached-next _ _ _ _ _ _ l.loop-i.invariant _ b.byte-byte.ensures.0 c.step-after.result t.loop-i-test.true c.step-after.ensures.becomes
+    reached-next _ _ _ _ _ _ c.loop-i.invariant _ c.byte-byte.ensures.0 c.step-after.result c.loop-i-test.true c.step-after.ensures.becomes
 
 pub returns : goal.returns
-returns c = let l = c in reached-end _ _ _ _ _ _ l.loop-i.invariant c.loop-i-test.false
+returns c =  reached-end _ _ _ _ _ _ c.loop-i.invariant c.loop-i-test.false

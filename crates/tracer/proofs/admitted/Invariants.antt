@@ -16,6 +16,12 @@ use Rattle.model.specs.Schedule.{admits, admits_from}
 use Rattle.plan.specs.View.{arcs_in, next_of, StatesFit}
 use Rattle.tracer.proofs.admitted.Given as goal
 
+-- the labels before a place are admitted, and lead to a state
+pub record Reached (next labels : List ℕ) (state i : ℕ) : Type 0 where
+  pub inside : i ≤ length labels
+  pub fits : state < max_states
+  pub rest : (P : Plan) → P.arcs ≡ arcs_in next → admits P labels ≡ admits_from P (drop i labels) state
+
 abbrev pub invariant-loop-i : goal.invariant-loop-i
 invariant-loop-i l = Reached l.next l.labels l.state l.i
 
