@@ -30,17 +30,17 @@ put_number_line-requires c = omega (arith, number-most c.in-Over.t (omega arith)
 pub returns-in-Refused : goal.returns-in-Refused
 unfolding cap_text
 returns-in-Refused c =
-    let x = c in
-    as_line x.in-Refused.is (ap refused_line x.number.ensures) x.put_refusal.ensures
+    let r = as_line c.in-Refused.is (ap refused_line c.number.ensures) c.put_refusal.ensures in
+    record { put = r.0; prefix_len = r.1 }
 
 pub returns-in-Over : goal.returns-in-Over
 unfolding cap_text
 returns-in-Over c =
-    let x = c in
-    as_line x.in-Over.is refl x.put_number_line.ensures
+    let r = as_line c.in-Over.is refl c.put_number_line.ensures in
+    record { put = r.0; prefix_len = r.1 }
 
 pub returns-in-Kept : goal.returns-in-Kept
 unfolding cap_text
 returns-in-Kept c =
-    let x = c in
-    as_line x.in-Kept.is refl x.put_bytes.ensures
+    let r = as_line c.in-Kept.is refl c.put_bytes.ensures in
+    record { put = r.0; prefix_len = r.1 }
