@@ -2,7 +2,6 @@
 use mathlib.Core.Path.{refl, ap, ◌∙◌}
 use Prim.Native.Nat.{ℕ}
 use lib.ListN.{replicate}
-use borrow.Author.Rules.{rules}
 use Rattle.words.proofs.Memory.{overwrite-zeros}
 use Rattle.checker.proofs.Answers.{short, enough}
 use Rattle.checker.proofs.check.Goals as goal

@@ -1,5 +1,5 @@
 -- `circuit::best_edge` meets its contract: the outcome noted for the other node's pattern is a best edge. Assumes nothing.
-use Rattle.std.proofs.Common.{arith, refl, sym, ap, subst, ◌∙◌, List, ℕ, length, ◌-◌, ◌*◌, ◌^◌, ◌<◌}
+use Rattle.std.proofs.Common.{arith, refl, sym, ap, subst, ◌∙◌, ℕ, length, ◌-◌, ◌*◌, ◌^◌, ◌<◌}
 use Rattle.model.specs.Limits.{max_tasks}
 use Rattle.words.specs.Packed.{field_base, unpacked}
 use Rattle.theory.proofs.Sound.{sound-plan}

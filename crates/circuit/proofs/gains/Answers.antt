@@ -1,18 +1,12 @@
 -- `circuit::gains` meets its contract: one step after another. Assumes nothing.
-use Rattle.std.proofs.Common.{arith, refl, ◌≡◌, ◌∙◌, List, ℕ, length, ◌+◌, ◌*◌, ◌≤◌, ◌<◌}
+use Rattle.std.proofs.Common.{arith, refl, ◌∙◌}
 use Rattle.words.proofs.Free.{only_refl, only_trans}
-use Rattle.model.specs.Graph.{Edge}
-use Rattle.model.specs.Limits.{max_tasks, max_value}
-use Rattle.model.specs.Plan.{Plan}
 use Rattle.theory.proofs.Sound.{sound-plan}
 use Rattle.circuit.proofs.Steps.{summed_fits, summed_start, summed_more, summed_all}
 use Rattle.circuit.proofs.gains.Goals as goal
 
 pub loop-i-init : goal.loop-i-init
 loop-i-init c = (omega arith, refl, λ P next n v es t. summed_start t.along, only_refl)
-
-pub step_edge-edge-requires : goal.step_edge-edge-requires
-step_edge-edge-requires c = (c.requires.0, c.requires.1, c.loop-i-test.true, omega (arith, c.loop-i.invariant.1, c.requires.2))
 
 -- the sums with one step more are small
 pub overflow_add-kept : goal.overflow_add-kept
@@ -32,12 +26,6 @@ overflow_add-ideal c =
     (c.step_edge-edge.ensures.stands_for g.plan g.next g.count g.node g.edges g.turns) in
     let small = summed_fits (sound-plan g.plan g.turns.planned.sound) (omega (arith, c.loop-i-test.true)) more in
     record { fits = omega (arith, small.1, c.loop-i-test.true, g.few) }
-
-pub overflow_add-i : goal.overflow_add-i
-overflow_add-i c = record { fits = omega (arith, c.loop-i-test.true, c.requires.1.few) }
-
-pub loop-i-smaller : goal.loop-i-smaller
-loop-i-smaller c = omega (arith, c.loop-i-test.true)
 
 pub loop-i-preserved : goal.loop-i-preserved
 loop-i-preserved c = (

@@ -1,5 +1,5 @@
 -- `circuit::lowest` meets its contract: both divided by the greatest common divisor. Assumes nothing.
-use Rattle.std.proofs.Common.{sym, ap, subst, ℕ, ◌/◌, ◌<◌}
+use Rattle.std.proofs.Common.{sym, subst, ℕ, ◌<◌}
 use Rattle.theory.proofs.Divisors.{gcd-pos-right}
 use Rattle.circuit.proofs.lowest.Goals as goal
 
@@ -9,6 +9,3 @@ nonzero_div-result c = subst (λ (g : ℕ). 0 < g) (sym c.gcd-g.ensures) (gcd-po
 
 pub nonzero_div-result-2 : goal.nonzero_div-result-2
 nonzero_div-result-2 c = subst (λ (g : ℕ). 0 < g) (sym c.gcd-g.ensures) (gcd-pos-right c.args.kept c.args.ideal c.requires)
-
-pub returns : goal.returns
-returns c = (ap (λ (g : ℕ). c.args.kept / g) c.gcd-g.ensures, ap (λ (g : ℕ). c.args.ideal / g) c.gcd-g.ensures)
