@@ -3,7 +3,6 @@
 use Rattle.plan.specs.View.{plan_of}
 use Rattle.plan.proofs.View.{read_as}
 use Rattle.cap.proofs.Answers.{begun-faulty}
-use borrow.Author.Rules.{rules}
 use Rattle.cap.proofs.begin.Goals as goal
 
 pub returns-in-Faulty : goal.returns-in-Faulty

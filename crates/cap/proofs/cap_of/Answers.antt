@@ -9,7 +9,6 @@ use Rattle.model.specs.Limits.{max_tasks}
 use Rattle.plan.specs.View.{plan_of}
 use Rattle.plan.proofs.View.{tasks-size}
 use Rattle.cap.proofs.Scanned.{range_bounds}
-use borrow.Author.Rules.{rules}
 use Rattle.cap.proofs.cap_of.Goals as goal
 
 pub overflow_cast-most : goal.overflow_cast-most

@@ -3,7 +3,6 @@
 use mathlib.Core.List.{[]}
 use native.Mathlib.Omega.{arith}
 use Rattle.cap.proofs.Answers.{checked}
-use borrow.Author.Rules.{rules}
 use Rattle.cap.proofs.check.Goals as goal
 
 pub feed-watched-requires : goal.feed-watched-requires

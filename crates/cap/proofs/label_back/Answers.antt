@@ -7,7 +7,6 @@ use native.Mathlib.Omega.{arith}
 use lib.ListN.{get_or, get_or-append}
 use Rattle.words.proofs.Memory.{get_or_skip}
 use Rattle.cap.specs.View.{places}
-use borrow.Author.Rules.{rules}
 use Rattle.cap.proofs.label_back.Goals as goal
 
 pub overflow_cast-result : goal.overflow_cast-result

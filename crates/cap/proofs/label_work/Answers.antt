@@ -1,10 +1,9 @@
 -- `cap::label_work` meets its contract: each turn adds the work of one task's new job.
 -- Assumes nothing.
-use mathlib.Core.Path.{◌≡◌, refl, sym, ap, ap₂, ◌∙◌}
-use Prim.Native.Nat.{ℕ, ◌+◌, ◌*◌, ◌-◌, ◌≤◌}
+use mathlib.Core.Path.{◌≡◌, sym, ap, ap₂, ◌∙◌}
+use Prim.Native.Nat.{ℕ, ◌+◌}
 use native.Mathlib.Numerals.{add-one}
 use native.Mathlib.Omega.{arith}
-use borrow.Author.Rules.{rules}
 use lib.ListN.{take, length-map, length-take}
 use Rattle.model.specs.Limits.{max_tasks}
 use Rattle.model.specs.Lists.{sum}
@@ -12,12 +11,6 @@ use Rattle.plan.specs.View.{task_view, tasks_of}
 use Rattle.policy.specs.View.{new_work}
 use Rattle.cap.proofs.Work.{work_by_task}
 use Rattle.cap.proofs.label_work.Goals as goal
-
-pub loop-i-init : goal.loop-i-init
-loop-i-init c = (omega arith, refl, omega arith)
-
-pub overflow_add-work : goal.overflow_add-work
-overflow_add-work c = omega (arith, c.loop-i.invariant, c.new_work.type_inv)
 
 pub loop-i-preserved : goal.loop-i-preserved
 loop-i-preserved c =

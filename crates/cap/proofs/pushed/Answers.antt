@@ -8,7 +8,6 @@ use lib.ListN.{length}
 use Rattle.model.specs.Bytes.{part, overwrite}
 use Rattle.cap.specs.View.{places}
 use Rattle.cap.proofs.Sliding.{pushed_many, pushed_few}
-use borrow.Author.Rules.{rules}
 use Rattle.cap.proofs.pushed.Goals as goal
 
 pub returns-then-n-ge-PLACES : goal.returns-then-n-ge-PLACES

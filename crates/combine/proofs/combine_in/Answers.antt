@@ -2,9 +2,7 @@
 -- Assumes nothing.
 use mathlib.Core.Path.{sym, ◌∙◌}
 use native.Mathlib.Omega.{arith}
-use borrow.Author.Tests.{not-true, not-false}
 use Rattle.combine.proofs.Answers.{other-tasks, many-pairs, both_written}
-use borrow.Author.Rules.{rules}
 use Rattle.combine.proofs.combine_in.Goals as goal
 
 pub returns-then-not-same_tasks : goal.returns-then-not-same_tasks

@@ -3,7 +3,6 @@
 use mathlib.Core.Path.{refl}
 use native.Mathlib.Omega.{arith}
 use Rattle.combine.proofs.Growing.{followed_none, followed_some}
-use borrow.Author.Rules.{rules}
 use Rattle.combine.proofs.follow.Goals as goal
 
 pub returns-then-to-eq0 : goal.returns-then-to-eq0

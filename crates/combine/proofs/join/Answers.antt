@@ -3,7 +3,6 @@
 use native.Mathlib.Omega.{arith}
 use mathlib.Core.Path.{refl}
 use Rattle.combine.proofs.Numbers.{join_there, join_full, join_new}
-use borrow.Author.Rules.{rules}
 use Rattle.combine.proofs.join.Goals as goal
 
 pub returns-then-numbers-at-ne0 : goal.returns-then-numbers-at-ne0

@@ -3,7 +3,6 @@
 use Prim.Native.Nat.{◌-◌}
 use native.Mathlib.Omega.{arith}
 use Rattle.combine.proofs.Leads.{first-none, second_none, both_lead}
-use borrow.Author.Rules.{rules}
 use Rattle.combine.proofs.lead.Goals as goal
 
 pub returns-then-s-eq0 : goal.returns-then-s-eq0

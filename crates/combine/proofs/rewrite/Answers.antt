@@ -7,7 +7,6 @@ use Rattle.plan.proofs.View.{read_as}
 use Rattle.policy.proofs.Plans.{states_fit_lem}
 use Rattle.refusals.proofs.Told.{told_by, told-refusal}
 use Rattle.combine.proofs.Answers.{combines, short, by_first, by_both}
-use borrow.Author.Rules.{rules}
 use Rattle.combine.proofs.rewrite.Goals as goal
 
 pub returns-then-out-lt-PLAN_ROOM : goal.returns-then-out-lt-PLAN_ROOM

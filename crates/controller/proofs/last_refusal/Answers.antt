@@ -1,6 +1,6 @@
 -- `controller::last_refusal` meets its contract: the last write is that of the last two bytes that are a pair.
 -- Assumes nothing.
-use Rattle.std.proofs.Common.{ℕ, ◌+◌, length, get_or, ap, ◌∙◌, rules}
+use Rattle.std.proofs.Common.{ℕ, ◌+◌, length, get_or, ap, ◌∙◌}
 use Rattle.model.specs.Controller.{refusal_of}
 use Rattle.controller.specs.View.{write_of}
 use Rattle.controller.proofs.Lists.{last_place, last_none, last-write}

@@ -1,6 +1,6 @@
 -- `controller::refusal_of` meets its contract: each return by the tests before it.
 -- Assumes nothing.
-use Rattle.std.proofs.Common.{sym, ◌∙◌, rules}
+use Rattle.std.proofs.Common.{sym, ◌∙◌}
 use Rattle.controller.proofs.Writes.{label-write, mask-write, other-write, refusal_by}
 use Rattle.controller.proofs.refusal_of.Goals as goal
 

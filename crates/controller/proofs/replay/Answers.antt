@@ -1,12 +1,12 @@
 -- `controller::replay` meets its contract: the plan's fault, or the registers after the writes.
 -- Assumes nothing.
-use Rattle.std.proofs.Common.{sym, ap, ◌∙◌, rules}
+use Rattle.std.proofs.Common.{sym, ap, ◌∙◌}
 use Rattle.model.specs.Plan.{faulty}
 use Rattle.controller.proofs.Replays.{no_block, block-left}
 use Rattle.controller.proofs.replay.Goals as goal
 
 pub registers_after-requires : goal.registers_after-requires
-registers_after-requires c =  (c.set_up-set.ensures.taken c.in-Sound.is).2.ready
+registers_after-requires c = (c.set_up-set.ensures.taken c.in-Sound.is).2.ready
 
 pub returns-in-Faulty : goal.returns-in-Faulty
 returns-in-Faulty c =

@@ -1,21 +1,12 @@
 -- `controller::run_slot` meets its contract: the label is admitted or not, and the slot is the rule's.
 -- Assumes nothing.
-use Rattle.std.proofs.Common.{◌≡◌, suc, ◌-◌, arith, rules}
+use Rattle.std.proofs.Common.{◌≡◌, suc, ◌-◌, arith}
 use Rattle.controller.proofs.Slots.{stays, goes}
 use Rattle.controller.proofs.run_slot.Goals as goal
-
-pub next_state-to-requires : goal.next_state-to-requires
-next_state-to-requires c = c.requires.state
 
 pub returns-then-to-eq0 : goal.returns-then-to-eq0
 returns-then-to-eq0 c =
     stays _ _ _ c.requires _ c.next_state-to.ensures c.if-to-eq0.true
-
-pub slot-done-requires : goal.slot-done-requires
-slot-done-requires c =  (c.requires.ruled, c.requires.cells)
-
-pub overflow_sub-state : goal.overflow_sub-state
-overflow_sub-state c = omega (arith, c.if-to-eq0.false)
 
 pub returns : goal.returns
 returns c =

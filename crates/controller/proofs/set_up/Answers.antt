@@ -1,6 +1,5 @@
 -- `controller::set_up` meets its contract: the plan's fault, or its part.
 -- Assumes nothing.
-use Rattle.std.proofs.Common.{rules}
 use Rattle.plan.specs.View.{plan_of}
 use Rattle.plan.proofs.View.{read_as}
 use Rattle.controller.proofs.Parts.{part-refused, part-taken}

@@ -1,6 +1,6 @@
 -- `controller::step` meets its contract: each return by the tests before it.
 -- Assumes nothing.
-use Rattle.std.proofs.Common.{sym, refl, ◌∙◌, rules}
+use Rattle.std.proofs.Common.{sym, refl, ◌∙◌}
 use Rattle.controller.proofs.Writes.{label-write, mask-write, other-write, taken_by, becomes_by, becomes_with}
 use Rattle.controller.proofs.step.Goals as goal
 

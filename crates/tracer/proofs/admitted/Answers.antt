@@ -4,13 +4,11 @@ use mathlib.Core.Path.{◌≡◌, refl, sym, ap, ◌∙◌}
 use mathlib.Core.Bool.{false}
 use mathlib.Core.List.{List, ◌∷◌}
 use mathlib.Core.Option.{Option, none, some}
-use borrow.Author.Rules.{rules}
-use Prim.Native.Nat.{ℕ, suc, ◌-◌, ◌≤◌, ◌<◌}
+use Prim.Native.Nat.{ℕ, suc, ◌-◌, ◌<◌}
 use native.Mathlib.Numerals.{add-one}
 use native.Mathlib.Omega.{arith}
 use lib.ListN.{length, get_or, drop, drop_of_length-le}
 use lib.Seq.{drop-cons}
-use Rattle.model.specs.Limits.{max_states}
 use Rattle.model.specs.Plan.{Plan, next_in}
 use Rattle.model.specs.Schedule.{admits, admits_from}
 use Rattle.plan.specs.View.{arcs_in, next_of, StatesFit}
@@ -44,15 +42,9 @@ module _ (next labels : List ℕ) (state i to : ℕ) (h : Reached next labels st
 pub loop-i-init : goal.loop-i-init
 loop-i-init c = record { inside = omega arith; fits = omega arith; rest = λ P e. refl }
 
-pub next_state-to-requires : goal.next_state-to-requires
-next_state-to-requires c = c.loop-i.invariant.fits
-
 pub returns-then-to-eq0 : goal.returns-then-to-eq0
 returns-then-to-eq0 c =
     refused _ _ _ _ _ c.loop-i.invariant c.loop-i-test.true c.next_state-to.ensures c.if-to-eq0.true
-
-pub overflow_sub-state : goal.overflow_sub-state
-overflow_sub-state c = let h = c.if-to-eq0.false in omega arith
 
 pub loop-i-preserved : goal.loop-i-preserved
 loop-i-preserved c =

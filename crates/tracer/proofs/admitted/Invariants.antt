@@ -1,19 +1,13 @@
 -- `tracer::admitted` meets its contract: before each label the plan admits the run exactly when it admits the rest from here.
 -- Assumes nothing.
-use mathlib.Core.Path.{◌≡◌, refl, sym, ap, ◌∙◌}
-use mathlib.Core.Bool.{false}
-use mathlib.Core.List.{List, ◌∷◌}
-use mathlib.Core.Option.{Option, none, some}
-use borrow.Author.Rules.{rules}
-use Prim.Native.Nat.{ℕ, suc, ◌-◌, ◌≤◌, ◌<◌}
-use native.Mathlib.Numerals.{add-one}
-use native.Mathlib.Omega.{arith}
-use lib.ListN.{length, get_or, drop, drop_of_length-le}
-use lib.Seq.{drop-cons}
+use mathlib.Core.Path.{◌≡◌}
+use mathlib.Core.List.{List}
+use Prim.Native.Nat.{ℕ, ◌-◌, ◌≤◌, ◌<◌}
+use lib.ListN.{length, drop}
 use Rattle.model.specs.Limits.{max_states}
-use Rattle.model.specs.Plan.{Plan, next_in}
+use Rattle.model.specs.Plan.{Plan}
 use Rattle.model.specs.Schedule.{admits, admits_from}
-use Rattle.plan.specs.View.{arcs_in, next_of, StatesFit}
+use Rattle.plan.specs.View.{arcs_in}
 use Rattle.tracer.proofs.admitted.Given as goal
 
 -- the labels before a place are admitted, and lead to a state

@@ -5,7 +5,6 @@ use Rattle.plan.specs.View.{plan_of}
 use Rattle.plan.proofs.View.{read_as}
 use Rattle.refusals.proofs.Told.{told_by, told-refusal}
 use Rattle.tracer.proofs.Answers.{traces, short, by_plan}
-use borrow.Author.Rules.{rules}
 use Rattle.tracer.proofs.trace.Goals as goal
 
 pub returns-then-out-lt-TRACE_ROOM : goal.returns-then-out-lt-TRACE_ROOM

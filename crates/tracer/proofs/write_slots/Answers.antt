@@ -3,18 +3,17 @@
 use mathlib.Core.Path.{◌≡◌, refl, sym, ◌∙◌}
 use mathlib.Core.List.{List, []}
 use borrow.Author.Rules.{rules}
-use Prim.Native.Nat.{ℕ, suc, ◌-◌, ◌*◌, ◌≤◌, ◌<◌}
+use Prim.Native.Nat.{ℕ, suc, ◌*◌, ◌≤◌, ◌<◌}
 use native.Mathlib.Numerals.{add-one}
 use native.Mathlib.Omega.{arith}
 use lib.ListN.{length, get_or}
 use Rattle.model.specs.Bytes.{overwrite}
-use Rattle.model.specs.Plan.{Plan}
 use Rattle.model.specs.Trace.{Row, row_bytes, row_size}
 use Rattle.policy.specs.declared.Rules.{Rules}
 use Rattle.policy.specs.declared.Done.{Done}
-use Rattle.policy.specs.View.{tasks_in, jobs_of, cell_count, slot_cells, Cells, Leaves, Ruled, Slotted, task_number, displaced_task, ran_in, done_of}
+use Rattle.policy.specs.View.{tasks_in, cell_count, slot_cells, Leaves, Ruled, Slotted, task_number, displaced_task, done_of}
 use Rattle.policy.proofs.Interruptions.{row_shown}
-use Rattle.tracer.proofs.Slots.{Writing, writing_start, writing-next, writing-end}
+use Rattle.tracer.proofs.Slots.{writing_start, writing-next, writing-end}
 use Rattle.tracer.proofs.write_slots.Invariants.{Reached}
 use Rattle.tracer.proofs.write_slots.Goals as goal
 
@@ -47,23 +46,11 @@ module _ (rules : Rules) (labels before now' cells : List ℕ) (ran i : ℕ) (ru
 pub loop-slot-init : goal.loop-slot-init
 loop-slot-init c = reached-start _ _ _ _ (c.no_jobs-cells.ensures _)
 
-pub slot-done-requires : goal.slot-done-requires
-slot-done-requires c = (c.requires.0, c.loop-slot.invariant.held)
-
-pub overflow_mul-slot : goal.overflow_mul-slot
-overflow_mul-slot c = omega (arith, c.requires.1)
-
-pub put_row-requires : goal.put_row-requires
-put_row-requires c = omega (arith, c.requires.1, c.loop-slot.invariant.size)
-
 pub loop-slot-preserved : goal.loop-slot-preserved
 loop-slot-preserved c =
     rw (add-one c.loop-slot.slot)
     (reached-next _ _ _ _ _ _ _ c.requires.0 c.requires.1 c.loop-slot.invariant c.loop-slot-test.true c.slot-done.result c.slot-done.ensures
     _ (λ i. record { ran = c.task_number-task.ensures i; gain = c.slot-done.result.gain; cut = c.displaced-cut.ensures i }) _ c.put_row.ensures c.put_row.auto.out)
-
-pub shape_of-out : goal.shape_of-out
-shape_of-out c = c.loop-slot.invariant.size
 
 pub returns : goal.returns
 returns c P t p = writing-end P _ _ _ _ _ _ c.requires.1 (c.loop-slot.invariant.writing P t p) c.loop-slot-test.false

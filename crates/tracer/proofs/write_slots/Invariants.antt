@@ -1,20 +1,13 @@
 -- `tracer::write_slots` meets its contract: each turn writes its slot, and the rest of the trace is still to come.
 -- Assumes nothing.
-use mathlib.Core.Path.{◌≡◌, refl, sym, ◌∙◌}
-use mathlib.Core.List.{List, []}
-use borrow.Author.Rules.{rules}
-use Prim.Native.Nat.{ℕ, suc, ◌-◌, ◌*◌, ◌≤◌, ◌<◌}
-use native.Mathlib.Numerals.{add-one}
-use native.Mathlib.Omega.{arith}
-use lib.ListN.{length, get_or}
-use Rattle.model.specs.Bytes.{overwrite}
+use mathlib.Core.Path.{◌≡◌}
+use mathlib.Core.List.{List}
+use Prim.Native.Nat.{ℕ, ◌-◌, ◌≤◌}
+use lib.ListN.{length}
 use Rattle.model.specs.Plan.{Plan}
-use Rattle.model.specs.Trace.{Row, row_bytes, row_size}
 use Rattle.policy.specs.declared.Rules.{Rules}
-use Rattle.policy.specs.declared.Done.{Done}
-use Rattle.policy.specs.View.{tasks_in, jobs_of, cell_count, slot_cells, Cells, Leaves, Ruled, Slotted, task_number, displaced_task, ran_in, done_of}
-use Rattle.policy.proofs.Interruptions.{row_shown}
-use Rattle.tracer.proofs.Slots.{Writing, writing_start, writing-next, writing-end}
+use Rattle.policy.specs.View.{tasks_in, jobs_of, cell_count, Cells, ran_in}
+use Rattle.tracer.proofs.Slots.{Writing}
 use Rattle.tracer.proofs.write_slots.Given as goal
 
 -- the rows of the labels before a place are written; in the slot before it a job ran in this cell
