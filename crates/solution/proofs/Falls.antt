@@ -19,6 +19,7 @@ use Rattle.policy.specs.declared.Rules.{Rules}
 use Rattle.graph.specs.View.{Planned}
 use Rattle.discovery.specs.Discovery.{Holds}
 use Rattle.distances.specs.declared.Prices.{Prices}
+use Rattle.distances.specs.declared.Settled.{Settled}
 use Rattle.model.specs.Bytes.{Only}
 use Rattle.links.specs.Links.{links_at, links_size, first_steps}
 use Rattle.distances.specs.Distances.{Turned, Settles}
@@ -83,6 +84,10 @@ tight-kept {P} {n} {k = k} o t = record {
 }
 
 -- ---- from fraction to fraction
+
+-- the solution, if no cycle was found
+abbrev pub solution_at : ℕ → ℕ → ℕ → Settled → Solution
+solution_at p q steps found = record { p = p; q = q; steps = steps; passes = found.passes }
 
 -- at this fraction a cycle was found, or, for found = 0, none costs less than 0
 pub record Aimed (P : Plan) (r : Rules) (next m : List ℕ) (n : ℕ) (s : Solution) (found : ℕ) : Type 0 where

@@ -3,15 +3,12 @@
 use Rattle.plan.specs.View.{plan_of}
 use Rattle.plan.proofs.View.{read_as}
 use Rattle.cap.proofs.Answers.{begun-faulty}
-use borrow.Author.Rules.{rules}
 use Rattle.cap.proofs.begin.Goals as goal
 
 pub returns-in-Faulty : goal.returns-in-Faulty
 returns-in-Faulty c =
-    let r = c in
-    begun-faulty _ _ _ _ (read_as (plan_of r.read-read.result.plan) r.read-read.ensures.1 c.in-Faulty.is) _ c.refused.ensures
+    begun-faulty _ _ _ _ (read_as (plan_of c.read-read.result.plan) c.read-read.ensures.1 c.in-Faulty.is) _ c.refused.ensures
 
 pub returns-in-Sound : goal.returns-in-Sound
 returns-in-Sound c =
-    let r = c in
-    c.begin_with.ensures _ (read_as (plan_of r.read-read.result.plan) r.read-read.ensures.1 c.in-Sound.is)
+    c.begin_with.ensures _ (read_as (plan_of c.read-read.result.plan) c.read-read.ensures.1 c.in-Sound.is)

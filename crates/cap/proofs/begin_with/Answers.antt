@@ -2,12 +2,10 @@
 -- Assumes nothing.
 use mathlib.Core.Path.{sym, subst, ◌∙◌}
 use mathlib.Core.List.{[]}
-use borrow.Author.Tests.{not-true, not-false}
 use Rattle.cap.specs.View.{Watched}
 use Rattle.cap.specs.declared.Answer.TheVariants.{Kept}
 use Rattle.cap.specs.declared.Window.{Window}
 use Rattle.cap.proofs.Answers.{begun_unranged, begun_kept}
-use borrow.Author.Rules.{rules}
 use Rattle.cap.proofs.begin_with.Goals as goal
 
 pub returns-then-not-in_range : goal.returns-then-not-in_range

@@ -3,13 +3,11 @@
 use mathlib.Core.List.{[]}
 use native.Mathlib.Omega.{arith}
 use Rattle.cap.proofs.Answers.{checked}
-use borrow.Author.Rules.{rules}
 use Rattle.cap.proofs.check.Goals as goal
 
 pub feed-watched-requires : goal.feed-watched-requires
 feed-watched-requires c =
-    let s = c in
-    record { plan = s.args.plan.now; slots = s.args.slots; work = s.args.work; log = []; watched = c.begin-begun.ensures; fits = omega (arith, s.well_formed) }
+    record { plan = c.args.plan.now; slots = c.args.slots; work = c.args.work; log = []; watched = c.begin-begun.ensures; fits = omega (arith, c.well_formed) }
 
 pub returns : goal.returns
 returns c = checked _ _ _ _ _ _ (c.feed-watched.ensures _ _ _ [] c.begin-begun.ensures)

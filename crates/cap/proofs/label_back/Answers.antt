@@ -7,7 +7,6 @@ use native.Mathlib.Omega.{arith}
 use lib.ListN.{get_or, get_or-append}
 use Rattle.words.proofs.Memory.{get_or_skip}
 use Rattle.cap.specs.View.{places}
-use borrow.Author.Rules.{rules}
 use Rattle.cap.proofs.label_back.Goals as goal
 
 pub overflow_cast-result : goal.overflow_cast-result
@@ -15,10 +14,9 @@ overflow_cast-result c = let a = c.args in omega (arith, c.type_inv.last (places
 
 pub returns-then-i-back : goal.returns-then-i-back
 returns-then-i-back c =
-    let s = c in
-    let a = s.args in
+    let a = c.args in
     let at : places - a.back + a.i ≡ a.i + (places - a.back) = omega arith in
-    sym (get_or-append a.last.now a.labels.now 0 (places - a.back + a.i) (omega (arith, s.requires, c.if-i-back.true)))
+    sym (get_or-append a.last.now a.labels.now 0 (places - a.back + a.i) (omega (arith, c.requires, c.if-i-back.true)))
     ∙ ap (λ (n : ℕ). get_or (a.last.now ++ a.labels.now) n 0) at
 
 pub overflow_cast-result-2 : goal.overflow_cast-result-2
@@ -26,8 +24,7 @@ overflow_cast-result-2 c = let a = c.args in omega (arith, c.type_inv.labels (a.
 
 pub returns : goal.returns
 returns c =
-    let s = c in
-    let a = s.args in
-    let at : places + (a.i - a.back) ≡ a.i + (places - a.back) = omega (arith, s.requires, c.if-i-back.false) in
-    sym (get_or_skip a.last.now a.labels.now places (a.i - a.back) s.requires.0)
+    let a = c.args in
+    let at : places + (a.i - a.back) ≡ a.i + (places - a.back) = omega (arith, c.requires, c.if-i-back.false) in
+    sym (get_or_skip a.last.now a.labels.now places (a.i - a.back) c.requires.0)
     ∙ ap (λ (n : ℕ). get_or (a.last.now ++ a.labels.now) n 0) at

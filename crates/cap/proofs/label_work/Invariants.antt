@@ -1,16 +1,11 @@
 -- `cap::label_work` meets its contract: each turn adds the work of one task's new job.
 -- Assumes nothing.
-use mathlib.Core.Path.{◌≡◌, refl, sym, ap, ap₂, ◌∙◌}
-use Prim.Native.Nat.{ℕ, ◌+◌, ◌*◌, ◌-◌, ◌≤◌}
-use native.Mathlib.Numerals.{add-one}
-use native.Mathlib.Omega.{arith}
-use borrow.Author.Rules.{rules}
-use lib.ListN.{take, length-map, length-take}
+use mathlib.Core.Path.{◌≡◌}
+use Prim.Native.Nat.{◌*◌, ◌-◌, ◌≤◌}
 use Rattle.model.specs.Limits.{max_tasks}
 use Rattle.model.specs.Lists.{sum}
-use Rattle.plan.specs.View.{task_view, tasks_of}
+use Rattle.plan.specs.View.{tasks_of}
 use Rattle.policy.specs.View.{new_work}
-use Rattle.cap.proofs.Work.{work_by_task}
 use Rattle.cap.proofs.label_work.Given as goal
 
 abbrev pub invariant-loop-i : goal.invariant-loop-i

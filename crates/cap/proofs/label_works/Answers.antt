@@ -1,45 +1,23 @@
 -- `cap::label_works` meets its contract: the loop fills the table from the front.
 -- Assumes nothing.
-use mathlib.Core.Path.{◌≡◌, refl, sym}
-use mathlib.Core.List.{map}
-use Prim.Native.Nat.{◌-◌, ◌≤◌}
-use Rattle.model.specs.Bytes.{overwrite}
-use Rattle.model.specs.Lists.{up_from}
+use mathlib.Core.Path.{refl, sym}
 use Rattle.words.proofs.Memory.{overwrite-none}
 use Rattle.plan.specs.View.{label_count, tasks_of}
 use Rattle.model.specs.Cap.{label_work}
 use Rattle.words.proofs.Tables.{written-more, written_all}
-use borrow.Author.Rules.{rules}
 use native.Mathlib.Omega.{arith}
 use Rattle.cap.proofs.label_works.Goals as goal
 
 pub loop-l-init : goal.loop-l-init
 loop-l-init c = (omega arith, sym (overwrite-none _ 0))
 
-pub label_work-requires : goal.label_work-requires
-label_work-requires c = omega arith
-
-pub offset_bounds-works-l : goal.offset_bounds-works-l
-offset_bounds-works-l c = omega arith
-
-pub bounds-works-l : goal.bounds-works-l
-bounds-works-l c = omega arith
-
-pub overflow_add-l : goal.overflow_add-l
-overflow_add-l c = omega arith
-
-pub loop-l-smaller : goal.loop-l-smaller
-loop-l-smaller c = omega arith
-
 pub loop-l-preserved : goal.loop-l-preserved
 loop-l-preserved c =
-    let head = c in
-    let l = head.loop-l.l in (
+    let l = c.loop-l.l in (
       omega arith,
-      written-more (label_work (tasks_of head.args.tasks head.args.count)) 0 _ 0 l l l (omega arith) (omega arith) c.loop-l-test.true c.label_work.ensures head.loop-l.invariant.1,
+      written-more (label_work (tasks_of c.args.tasks c.args.count)) 0 _ 0 l l l (omega arith) (omega arith) c.loop-l-test.true c.label_work.ensures c.loop-l.invariant.1,
     )
 
 pub returns : goal.returns
 returns c =
-    let head = c in
-    written_all (label_work (tasks_of head.args.tasks head.args.count)) 0 _ head.loop-l.l label_count (omega arith) refl head.loop-l.invariant.1
+    written_all (label_work (tasks_of c.args.tasks c.args.count)) 0 _ c.loop-l.l label_count (omega arith) refl c.loop-l.invariant.1

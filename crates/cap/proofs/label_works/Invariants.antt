@@ -1,16 +1,12 @@
 -- `cap::label_works` meets its contract: the loop fills the table from the front.
 -- Assumes nothing.
-use mathlib.Core.Path.{◌≡◌, refl, sym}
+use mathlib.Core.Path.{◌≡◌}
 use mathlib.Core.List.{map}
 use Prim.Native.Nat.{◌-◌, ◌≤◌}
 use Rattle.model.specs.Bytes.{overwrite}
 use Rattle.model.specs.Lists.{up_from}
-use Rattle.words.proofs.Memory.{overwrite-none}
 use Rattle.plan.specs.View.{label_count, tasks_of}
 use Rattle.model.specs.Cap.{label_work}
-use Rattle.words.proofs.Tables.{written-more, written_all}
-use borrow.Author.Rules.{rules}
-use native.Mathlib.Omega.{arith}
 use Rattle.cap.proofs.label_works.Given as goal
 
 abbrev pub invariant-loop-l : goal.invariant-loop-l

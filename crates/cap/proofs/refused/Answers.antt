@@ -3,7 +3,6 @@
 use lib.ListN.{replicate}
 use Rattle.plan.specs.View.{label_count}
 use Rattle.cap.specs.declared.Answer.TheVariants.{Refused}
-use borrow.Author.Rules.{rules}
 use Rattle.cap.proofs.refused.Goals as goal
 
 pub returns : goal.returns

@@ -8,13 +8,11 @@ use borrow.Author.Rules.{rules}
 use Rattle.check_cap.proofs.check.Goals as goal
 
 pub feed_parts-watch-requires : goal.feed_parts-watch-requires
-feed_parts-watch-requires c = watching_from _ _ _ _ _ _ (omega arith) c.begin-begun.ensures
+feed_parts-watch-requires g c = watching_from _ _ _ _ _ _ (omega arith) c.begin-begun.ensures
 
 pub returns : goal.returns
-returns c =
-    let b = c in
-    let r = b in
+returns g c =
     let f = c.feed_parts-watch.ensures in
-    let plan = take r.read_full-length.result r.read_full-length.new.buf in
+    let plan = take c.read_file-length.result c.read_file-length.new.buf in
     let a = c.args in
-    (plan, f.0, checked plan f.0 a.slots a.work _ _ (f.1 plan a.slots a.work [] b.begin-begun.ensures))
+    (plan, f.0, checked plan f.0 a.slots a.work _ _ (f.1 plan a.slots a.work [] c.begin-begun.ensures))

@@ -7,6 +7,4 @@ use Rattle.check_cap.proofs.counted.Goals as goal
 
 pub returns : goal.returns
 returns c =
-    let w = c in
-    let k = w in
-    sym (λ i. counted_is (k.in-Of.is i) (w.in-Of-work.is i))
+    sym (λ i. counted_is (c.in-Of.is i) (c.in-Of-work.is i))

@@ -9,9 +9,8 @@ use borrow.Author.Rules.{rules}
 use Rattle.check_cap.proofs.feed_part.Goals as goal
 
 pub feed-watch-requires : goal.feed-watch-requires
-feed-watch-requires c = watching_more _ _ _ [] part_bytes _ (let r = c in omega (arith, r.read_full-count.ensures, r.read_full-count.auto, r.large_buffer-labels.type_inv)) (feeds_none _ _) c.requires
+feed-watch-requires c = watching_more _ _ _ [] part_bytes _ (omega (arith, c.read_full-count.ensures, c.read_full-count.auto, c.large_buffer-labels.type_inv)) (feeds_none _ _) c.requires
 
 pub returns : goal.returns
 returns c =
-    let r = c in
-    (take r.read_full-count.result r.read_full-count.new.buf, r.read_full-count.ensures.1, omega (arith, r.read_full-count.ensures, r.read_full-count.auto, r.large_buffer-labels.type_inv), c.feed-watch.ensures)
+    (take c.read_full-count.result c.read_full-count.new.buf, c.read_full-count.ensures.1, omega (arith, c.read_full-count.ensures, c.read_full-count.auto, c.large_buffer-labels.type_inv), c.feed-watch.ensures)

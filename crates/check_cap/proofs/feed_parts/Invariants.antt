@@ -12,6 +12,12 @@ use lib.ListN.{length}
 use Rattle.check_cap.specs.Commands.{part_bytes}
 use Rattle.check_cap.proofs.feed_parts.Given as goal
 
+-- after some parts, with so many still to come
+pub record Through (c : Cap) (before after : Watch) (parts : ℕ) : Type 0 where
+  pub labels : List ℕ
+  pub fed : Feeds c before labels after
+  pub goes : Watching c after (parts * part_bytes)
+
 abbrev pub invariant-loop-parts : goal.invariant-loop-parts
 invariant-loop-parts l = Through l.cap l.initial.after l.after l.parts
 

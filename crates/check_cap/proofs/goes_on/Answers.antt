@@ -20,5 +20,4 @@ returns-then-count-ne-PART c = sym (not_full c.args.after.answer c.args.count c.
 
 pub returns-in-Kept : goal.returns-in-Kept
 returns-in-Kept c =
-    let e = c in
-    sym (ap (λ (a : Answer). goes_on a e.args.count) c.in-Kept.is ∙ eq-eqb e.args.count part_bytes e.if-count-ne-PART.false)
+    sym (ap (λ (a : Answer). goes_on a c.args.count) c.in-Kept.is ∙ eq-eqb c.args.count part_bytes c.if-count-ne-PART.false)

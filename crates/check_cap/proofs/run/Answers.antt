@@ -12,10 +12,9 @@ decided : (n : ℕ) {a b : Command} → a ≡ b → Runs b n → Runs a n
 decided n e r = subst (λ (c : Command). Runs c n) (sym e) r
 
 pub returns-in-Check : goal.returns-in-Check
-returns-in-Check c =
-    let k = c in
-    let w = k.check.ensures in
-    decided c.print.result k.in-Check.is (w.0, w.1, k.check.result, w.2, c.print.ensures)
+returns-in-Check g c =
+    let w = c.check.ensures in
+    decided c.print.result c.in-Check.is (w.0, w.1, c.check.result, w.2, c.print.ensures)
 
 pub returns-in-Unknown : goal.returns-in-Unknown
-returns-in-Unknown c = decided c.usage.result c.in-Unknown.is c.usage.ensures
+returns-in-Unknown g c = decided c.usage.result c.in-Unknown.is c.usage.ensures

@@ -2,7 +2,6 @@
 use mathlib.Core.Path.{refl, ap, ◌∙◌}
 use Prim.Native.Nat.{ℕ}
 use lib.ListN.{replicate}
-use borrow.Author.Rules.{rules}
 use Rattle.words.proofs.Memory.{overwrite-zeros}
 use Rattle.checker.proofs.Answers.{short, enough}
 use Rattle.checker.proofs.check.Goals as goal
@@ -14,8 +13,6 @@ returns-then-work-lt-WORK_ROOM c =
 
 pub returns : goal.returns
 returns c =
-    let call = c in
-    let start = call in
-    let a = start.args in
-    enough a.plan.now a.certificate.now a.work.now _ _ call.if-work-lt-WORK_ROOM.false call.check_bytes-answer.ensures.result_value
-    (c.fill.ensures ∙ overwrite-zeros call.check_bytes-answer.new.m ∙ ap (λ (n : ℕ). replicate n 0) call.check_bytes-answer.auto.1.1.0)
+    let a = c.args in
+    enough a.plan.now a.certificate.now a.work.now _ _ c.if-work-lt-WORK_ROOM.false c.check_bytes-answer.ensures.result_value
+    (c.fill.ensures ∙ overwrite-zeros c.check_bytes-answer.new.m ∙ ap (λ (n : ℕ). replicate n 0) c.check_bytes-answer.auto.m)

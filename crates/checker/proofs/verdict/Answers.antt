@@ -3,8 +3,6 @@ use mathlib.Core.Path.{◌≡◌, refl, sym, ◌∙◌}
 use mathlib.Core.Bool.{true}
 use mathlib.Core.List.{List}
 use Prim.Native.Nat.{ℕ}
-use borrow.Author.Rules.{rules}
-use borrow.Author.Tests.{not-true, not-false}
 use Rattle.words.proofs.Free.{only_refl}
 use Rattle.model.specs.Edition.{long_reads}
 use Rattle.model.specs.Check.{share, within_limit, fraction_ok}
@@ -43,19 +41,20 @@ tested P r next m bs n parts planned holds read fraction count within =
     }
 
 pub returns-then-not-fraction_ok : goal.returns-then-not-fraction_ok
-returns-then-not-fraction_ok c = let a = c.args in record { result_value = λ P p h. bad_fraction_lem P (certificate_of long_reads a.s.now a.parts) (sym c.fraction_ok.ensures ∙ c.if-not-fraction_ok.true); notes_free = only_refl }
+returns-then-not-fraction_ok c =
+    let a = c.args in record { result_value = λ P p h. bad_fraction_lem P (certificate_of long_reads a.s.now a.parts) (sym c.fraction_ok.ensures ∙ c.if-not-fraction_ok.true); notes_free = only_refl }
 
 pub returns-then-parts-n : goal.returns-then-parts-n
-returns-then-parts-n c = let start = c in
-    let a = start.args in
+returns-then-parts-n c =
+    let a = c.args in
     let bs = a.s.now in
     let z = certificate_of long_reads bs a.parts in
     let fraction = sym c.fraction_ok.ensures ∙ c.if-not-fraction_ok.false in
     let size = items-length (potential_in bs) head_size potential_size a.parts.count in record { result_value = λ P p h. bad_count_lem P z fraction (λ e. c.if-parts-n.true (sym size ∙ e ∙ held-count (tasks_in a.graph.rules) a.m.now a.graph.n (nodes P) h.nodes)); notes_free = only_refl }
 
 pub returns-then-not-within_limits : goal.returns-then-not-within_limits
-returns-then-not-within_limits c = let start = c in
-    let a = start.args in
+returns-then-not-within_limits c =
+    let a = c.args in
     let bs = a.s.now in
     let z = certificate_of long_reads bs a.parts in
     let fraction = sym c.fraction_ok.ensures ∙ c.if-not-fraction_ok.false in
@@ -68,23 +67,22 @@ returns-then-not-within_limits c = let start = c in
 
 pub edges_hold-requires : goal.edges_hold-requires
 edges_hold-requires c =
-    let start = c in
-    let a = start.args in
+    let a = c.args in
     let bs = a.s.now in
     let z = certificate_of long_reads bs a.parts in
     let fraction = sym c.fraction_ok.ensures ∙ c.if-not-fraction_ok.false in
     let size = items-length (potential_in bs) head_size potential_size a.parts.count in
     let count : a.parts.count ≡ a.graph.n = c.if-parts-n.false in
     let within = sym c.within_limits.ensures ∙ c.if-not-within_limits.false in
-    let held = start.requires.1 in (
-      start.requires.0,
-      record { plan = held.plan; certificate = z; test = tested held.plan a.graph.rules a.next.now a.m.now bs a.graph.n a.parts held.planned held.holds start.requires.2 fraction count within },
-      start.requires.3,
+    let held = c.requires.1 in (
+      c.requires.0,
+      record { plan = held.plan; certificate = z; test = tested held.plan a.graph.rules a.next.now a.m.now bs a.graph.n a.parts held.planned held.holds c.requires.2 fraction count within },
+      c.requires.3,
     )
 
 pub returns-then-not-edges_hold : goal.returns-then-not-edges_hold
-returns-then-not-edges_hold c = let start = c in
-    let a = start.args in
+returns-then-not-edges_hold c =
+    let a = c.args in
     let bs = a.s.now in
     let z = certificate_of long_reads bs a.parts in
     let fraction = sym c.fraction_ok.ensures ∙ c.if-not-fraction_ok.false in
@@ -93,14 +91,14 @@ returns-then-not-edges_hold c = let start = c in
     let within = sym c.within_limits.ensures ∙ c.if-not-within_limits.false in
     let edges = c.edges_hold.ensures in record {
       result_value = λ P p h. bad_edge P z fraction (size ∙ count ∙ sym (held-count (tasks_in a.graph.rules) a.m.now a.graph.n (nodes P) h.nodes))
-          within (sym c.if-not-edges_hold.true ∙ edges.0 P z
-          (tested P a.graph.rules a.next.now a.m.now bs a.graph.n a.parts p h start.requires.2 fraction count within));
-      notes_free = edges.1;
+          within (sym c.if-not-edges_hold.true ∙ edges.value P z
+          (tested P a.graph.rules a.next.now a.m.now bs a.graph.n a.parts p h c.requires.2 fraction count within));
+      notes_free = edges.notes_free;
     }
 
 pub returns-then-not-holds : goal.returns-then-not-holds
-returns-then-not-holds c = let start = c in
-    let a = start.args in
+returns-then-not-holds c =
+    let a = c.args in
     let bs = a.s.now in
     let z = certificate_of long_reads bs a.parts in
     let fraction = sym c.fraction_ok.ensures ∙ c.if-not-fraction_ok.false in
@@ -109,20 +107,15 @@ returns-then-not-holds c = let start = c in
     let within = sym c.within_limits.ensures ∙ c.if-not-within_limits.false in
     let edges = c.edges_hold.ensures in record {
       result_value = λ P p h. bad_cycle_lem P z fraction (size ∙ count ∙ sym (held-count (tasks_in a.graph.rules) a.m.now a.graph.n (nodes P) h.nodes))
-          within (sym c.if-not-edges_hold.false ∙ edges.0 P z
-          (tested P a.graph.rules a.next.now a.m.now bs a.graph.n a.parts p h start.requires.2 fraction count within))
+          within (sym c.if-not-edges_hold.false ∙ edges.value P z
+          (tested P a.graph.rules a.next.now a.m.now bs a.graph.n a.parts p h c.requires.2 fraction count within))
           (sym c.if-not-holds.true ∙ c.holds.ensures P p h);
-      notes_free = edges.1;
+      notes_free = edges.notes_free;
     }
 
-pub allowance-k-requires : goal.allowance-k-requires
-allowance-k-requires c =
-    let start = c in
-    (start.requires.2, sym c.within_limits.ensures ∙ c.if-not-within_limits.false)
-
 pub returns : goal.returns
-returns c = let start = c in
-    let a = start.args in
+returns c =
+    let a = c.args in
     let bs = a.s.now in
     let z = certificate_of long_reads bs a.parts in
     let fraction = sym c.fraction_ok.ensures ∙ c.if-not-fraction_ok.false in
@@ -132,8 +125,8 @@ returns c = let start = c in
     let edges = c.edges_hold.ensures in record {
       result_value = λ P p h. (λ i. share a.parts.p a.parts.q ((sym count ∙ sym size) i) (c.allowance-k.ensures i))
           ∙ accepted P z fraction (size ∙ count ∙ sym (held-count (tasks_in a.graph.rules) a.m.now a.graph.n (nodes P) h.nodes))
-          within (sym c.if-not-edges_hold.false ∙ edges.0 P z
-          (tested P a.graph.rules a.next.now a.m.now bs a.graph.n a.parts p h start.requires.2 fraction count within))
+          within (sym c.if-not-edges_hold.false ∙ edges.value P z
+          (tested P a.graph.rules a.next.now a.m.now bs a.graph.n a.parts p h c.requires.2 fraction count within))
           (sym c.if-not-holds.false ∙ c.holds.ensures P p h);
-      notes_free = edges.1;
+      notes_free = edges.notes_free;
     }

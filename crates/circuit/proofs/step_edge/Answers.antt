@@ -1,7 +1,6 @@
 -- `circuit::step_edge` meets its contract: a best edge from the step's node to the one after it. Assumes nothing.
 use mathlib.Core.Path.{subst₂}
 use Prim.Native.Nat.{ℕ}
-use borrow.Author.Rules.{rules}
 use Rattle.links.specs.declared.Taken.{Taken}
 use Rattle.circuit.specs.Circuit.{StandsFor}
 use Rattle.circuit.proofs.Steps.{turns-linked}
@@ -9,18 +8,15 @@ use Rattle.circuit.proofs.step_edge.Goals as goal
 
 pub best_edge-requires : goal.best_edge-requires
 best_edge-requires c =
-    let start = c in
-    let g = start.requires.1 in
-    let some = turns-linked g.turns start.requires.2 c.step_at-step.ensures c.next_node-to.ensures in
-    (start.requires.0, record { plan = g.plan; next = g.next; count = g.count; edge = some.0; linked = some.1 }, start.requires.3)
+    let g = c.requires.1 in
+    let some = turns-linked g.turns c.requires.2 c.step_at-step.ensures c.next_node-to.ensures in
+    (c.requires.0, record { plan = g.plan; next = g.next; count = g.count; edge = some.0; linked = some.1 }, c.requires.3)
 
 pub returns : goal.returns
-returns c = let start = c in
-    let read = c.step_at-step in
-    let to = c.next_node-to in record {
-      stands_for = λ P next n v es t.
-          let some = turns-linked t start.requires.2 read.ensures to.ensures in
-          subst₂ (λ (s : Taken) (x : ℕ). StandsFor P s.node s.label x c.best_edge.result) read.ensures to.ensures
-          (c.best_edge.ensures.stands_for P next n some.0 some.1);
-      notes_free = c.best_edge.ensures.notes_free;
-    }
+returns c = record {
+  stands_for = λ P next n v es t.
+      let some = turns-linked t c.requires.2 c.step_at-step.ensures c.next_node-to.ensures in
+      subst₂ (λ (s : Taken) (x : ℕ). StandsFor P s.node s.label x c.best_edge.result) c.step_at-step.ensures c.next_node-to.ensures
+      (c.best_edge.ensures.stands_for P next n some.0 some.1);
+  notes_free = c.best_edge.ensures.notes_free;
+}

@@ -1,15 +1,13 @@
 -- `circuit::write_steps` meets its contract: one step after another. Assumes nothing.
-use mathlib.Core.Path.{◌≡◌, refl, sym, subst, ◌∙◌}
+use mathlib.Core.Path.{◌≡◌}
 use mathlib.Core.List.{List}
-use Prim.Native.Nat.{ℕ, ◌+◌, ◌-◌, ◌≤◌}
-use native.Mathlib.Omega.{arith}
+use Prim.Native.Nat.{ℕ, ◌-◌, ◌≤◌}
 use lib.ListN.{length}
-use Rattle.words.proofs.Free.{only_refl, only_trans}
 use Rattle.model.specs.Graph.{Edge}
 use Rattle.model.specs.Plan.{Plan}
 use Rattle.graph.specs.Outcomes.{NotesFree}
 use Rattle.circuit.specs.Circuit.{Turns}
-use Rattle.circuit.proofs.Steps.{Written, written_start, written-more, written_all}
+use Rattle.circuit.proofs.Steps.{Written}
 use Rattle.circuit.proofs.write_steps.Given as goal
 
 abbrev pub invariant-loop-i : goal.invariant-loop-i

@@ -3,20 +3,16 @@
 use native.Mathlib.Omega.{arith}
 use mathlib.Core.Path.{refl}
 use Rattle.combine.proofs.Numbers.{join_there, join_full, join_new}
-use borrow.Author.Rules.{rules}
 use Rattle.combine.proofs.join.Goals as goal
 
 pub returns-then-numbers-at-ne0 : goal.returns-then-numbers-at-ne0
 returns-then-numbers-at-ne0 c =
-    let s = c in
-    join_there _ _ s.args.n s.requires s.args.pair (omega (arith, c.if-numbers-at-ne0.true))
+    join_there _ _ c.args.n c.requires c.args.pair (omega (arith, c.if-numbers-at-ne0.true))
 
 pub returns-then-n-eq-MAX_STATES : goal.returns-then-n-eq-MAX_STATES
 returns-then-n-eq-MAX_STATES c =
-    let s = c in
-    join_full _ _ s.args.n s.requires s.args.pair (omega (arith, c.if-numbers-at-ne0.false)) c.if-n-eq-MAX_STATES.true _ refl
+    join_full _ _ c.args.n c.requires c.args.pair (omega (arith, c.if-numbers-at-ne0.false)) c.if-n-eq-MAX_STATES.true _ refl
 
 pub returns : goal.returns
 returns c =
-    let s = c in
-    join_new _ _ s.args.n s.requires s.args.pair (omega (arith, c.if-numbers-at-ne0.false)) (omega (arith, s.requires.few, c.if-n-eq-MAX_STATES.false)) (omega arith)
+    join_new _ _ c.args.n c.requires c.args.pair (omega (arith, c.if-numbers-at-ne0.false)) (omega (arith, c.requires.few, c.if-n-eq-MAX_STATES.false)) (omega arith)

@@ -2,16 +2,14 @@
 -- Assumes nothing.
 use mathlib.Core.Path.{refl, ap, ◌∙◌}
 use mathlib.Core.List.{List}
-use Prim.Native.Nat.{ℕ, ◌-◌}
+use Prim.Native.Nat.{ℕ}
 use native.Mathlib.Omega.{arith}
 use lib.ListN.{length, get_or, length-replicate}
 use Rattle.model.proofs.Lists.{get_d_default}
-use Rattle.model.specs.Limits.{max_states}
 use Rattle.plan.specs.View.{pair_count}
 use Rattle.combine.specs.Pairs.{state_pairs}
 use Rattle.combine.proofs.Numbers.{no_pairs}
-use Rattle.combine.proofs.Whole.{Reached, reached-start, reached-many, reached-next, reached-all}
-use borrow.Author.Rules.{rules}
+use Rattle.combine.proofs.Whole.{reached-start, reached-many, reached-next, reached-all}
 use Rattle.combine.proofs.product.Goals as goal
 
 pub join-states-requires : goal.join-states-requires
@@ -24,42 +22,19 @@ loop-k-init c =
     let z = c.empty_table-next.ensures in
     reached-start _ _ _ _ _ _ c.join-states.result c.join-states.ensures (ap length z ∙ length-replicate {A = ℕ} pair_count 0) (λ n. ap (λ (t : List ℕ). get_or t n 0) z ∙ get_d_default pair_count n 0)
 
-pub bounds-order-k : goal.bounds-order-k
-bounds-order-k c = omega (arith, c.loop-k.invariant.numbering.few)
-
-pub explore-row-requires : goal.explore-row-requires
-explore-row-requires c =
-    let s = c in
-    (s.requires.0, s.requires.1, s.requires.2, c.loop-k.invariant.numbering)
-
 pub returns-then-states-gt-MAX_STATES : goal.returns-then-states-gt-MAX_STATES
 returns-then-states-gt-MAX_STATES c =
-    let e = c in
-    let l = e in
-    reached-many _ _ _ _ _ _ l.loop-k.states l.loop-k.k l.loop-k.invariant (omega arith) _ _ e.explore-row.result e.explore-row.ensures c.if-states-gt-MAX_STATES.true
-
-pub overflow_mul-k : goal.overflow_mul-k
-overflow_mul-k c = omega (arith, c.loop-k.invariant.numbering.few)
+    reached-many _ _ _ _ _ _ c.loop-k.states c.loop-k.k c.loop-k.invariant (omega arith) _ _ c.explore-row.result c.explore-row.ensures c.if-states-gt-MAX_STATES.true
 
 pub copy-requires : goal.copy-requires
-copy-requires c = let e = c in
-    let i = e.loop-k.invariant in record { n_in_bounds = omega (arith, e.explore-row.ensures.size); n_in_bounds_2 = omega (arith, i.numbering.few, i.size) }
-
-pub overflow_add-k : goal.overflow_add-k
-overflow_add-k c = omega (arith, c.loop-k.invariant.numbering.few)
-
-pub loop-k-smaller : goal.loop-k-smaller
-loop-k-smaller c = omega (arith, c.loop-k.invariant.numbering.few)
+copy-requires c =
+    let i = c.loop-k.invariant in record { n_in_bounds = omega (arith, c.explore-row.ensures.size); n_in_bounds_2 = omega (arith, i.numbering.few, i.size) }
 
 pub loop-k-preserved : goal.loop-k-preserved
 loop-k-preserved c =
-    let w = c in
-    let e = w in
-    let l = e in
-    reached-next _ _ _ _ _ _ l.loop-k.states l.loop-k.k l.loop-k.invariant (omega arith) _ _ e.explore-row.result e.explore-row.ensures (omega (arith, w.if-states-gt-MAX_STATES.false))
-    _ w.copy.ensures
+    reached-next _ _ _ _ _ _ c.loop-k.states c.loop-k.k c.loop-k.invariant (omega arith) _ _ c.explore-row.result c.explore-row.ensures (omega (arith, c.if-states-gt-MAX_STATES.false))
+    _ c.copy.ensures
 
 pub returns : goal.returns
 returns c =
-    let l = c in
-    reached-all _ _ _ _ _ _ l.loop-k.states l.loop-k.k l.loop-k.invariant l.requires.2 (omega arith)
+    reached-all _ _ _ _ _ _ c.loop-k.states c.loop-k.k c.loop-k.invariant c.requires.2 (omega arith)

@@ -7,7 +7,6 @@ use Rattle.plan.proofs.View.{read_as}
 use Rattle.policy.proofs.Plans.{states_fit_lem}
 use Rattle.refusals.proofs.Told.{told_by, told-refusal}
 use Rattle.combine.proofs.Answers.{combines, short, by_first, by_both}
-use borrow.Author.Rules.{rules}
 use Rattle.combine.proofs.rewrite.Goals as goal
 
 pub returns-then-out-lt-PLAN_ROOM : goal.returns-then-out-lt-PLAN_ROOM
@@ -15,38 +14,30 @@ returns-then-out-lt-PLAN_ROOM c = combines _ _ _ _ _ (told-refusal _ _ _ _ (shor
 
 pub returns-in-Faulty : goal.returns-in-Faulty
 returns-in-Faulty c =
-    let r = c in
-    combines _ _ _ _ _ (told-refusal _ _ _ _ (by_first _ _ _ _ r.if-out-lt-PLAN_ROOM.false (read_as (plan_of r.read-read.result.plan) r.read-read.ensures.1 c.in-Faulty.is)))
+    combines _ _ _ _ _ (told-refusal _ _ _ _ (by_first _ _ _ _ c.if-out-lt-PLAN_ROOM.false (read_as (plan_of c.read-read.result.plan) c.read-read.ensures.1 c.in-Faulty.is)))
 
 pub combine_in-requires : goal.combine_in-requires
 combine_in-requires c =
-    let q = c in
-    let r = q in
-    let P = plan_of r.read-read.result.plan in
-    let Q = plan_of q.read-other.result.plan in (
-      r.read-read.ensures.0,
-      q.read-other.ensures.0,
-      states_fit_lem P (record { bytes = _; read = read_as P r.read-read.ensures.1 q.in_default.is }) _ refl,
-      states_fit_lem Q (record { bytes = _; read = read_as Q q.read-other.ensures.1 c.in-Sound.is }) _ refl,
+    let P = plan_of c.read-read.result.plan in
+    let Q = plan_of c.read-other.result.plan in (
+      c.read-read.ensures.0,
+      c.read-other.ensures.0,
+      states_fit_lem P (record { bytes = _; read = read_as P c.read-read.ensures.1 c.in_default.is }) _ refl,
+      states_fit_lem Q (record { bytes = _; read = read_as Q c.read-other.ensures.1 c.in-Sound.is }) _ refl,
       omega arith,
     )
 
 pub returns-in-Faulty-verdict : goal.returns-in-Faulty-verdict
 returns-in-Faulty-verdict c =
-    let q = c in
-    let r = q in
-    let P = plan_of r.read-read.result.plan in
+    let P = plan_of c.read-read.result.plan in
     combines _ _ _ _ _
     (told-refusal _ _ _ _
-    (by_both _ _ _ P _ r.if-out-lt-PLAN_ROOM.false (read_as P r.read-read.ensures.1 q.in_default.is) (read_as (plan_of q.read-other.result.plan) q.read-other.ensures.1 c.in-Faulty-verdict.is)))
+    (by_both _ _ _ P _ c.if-out-lt-PLAN_ROOM.false (read_as P c.read-read.ensures.1 c.in_default.is) (read_as (plan_of c.read-other.result.plan) c.read-other.ensures.1 c.in-Faulty-verdict.is)))
 
 pub returns-in-Sound : goal.returns-in-Sound
 returns-in-Sound c =
-    let w = c in
-    let q = w in
-    let r = q in
-    let P = plan_of r.read-read.result.plan in
+    let P = plan_of c.read-read.result.plan in
     combines _ _ _ _ _
     (told_by
-    (by_both _ _ _ P _ r.if-out-lt-PLAN_ROOM.false (read_as P r.read-read.ensures.1 q.in_default.is) (read_as (plan_of q.read-other.result.plan) q.read-other.ensures.1 w.in-Sound.is))
-    w.combine_in.ensures)
+    (by_both _ _ _ P _ c.if-out-lt-PLAN_ROOM.false (read_as P c.read-read.ensures.1 c.in_default.is) (read_as (plan_of c.read-other.result.plan) c.read-other.ensures.1 c.in-Sound.is))
+    c.combine_in.ensures)

@@ -1,18 +1,12 @@
 -- `combine::same_tasks` meets its contract: the tasks before i are the same.
 -- Assumes nothing.
 use mathlib.Core.Path.{◌≡◌, sym, subst, ◌∙◌}
-use mathlib.Core.Bool.{true}
 use mathlib.Core.List.{List}
-use Prim.Native.Nat.{ℕ, ◌+◌, ◌-◌, ◌≤◌, ◌<◌}
+use Prim.Native.Nat.{ℕ, ◌+◌, ◌<◌}
 use native.Mathlib.Decide.{ℕ_discrete}
 use native.Mathlib.Omega.{arith}
-use lib.ListN.{get_or}
-use Rattle.model.specs.Combine.{same_task}
 use Rattle.plan.specs.declared.Task.{Task}
-use Rattle.plan.specs.View.{empty_task, task_view}
 use Rattle.combine.proofs.Tasks.{other-count, other-task, all_same}
-use borrow.Author.Tests.{not-true, not-false}
-use borrow.Author.Rules.{rules}
 use Rattle.combine.proofs.same_tasks.Invariants.{SameAt}
 use Rattle.combine.proofs.same_tasks.Goals as goal
 
@@ -21,45 +15,20 @@ more a b i below at j h (yes e) = subst (SameAt a b) (sym e) at
 more a b i below at j h (no n) = below j (omega arith)
 
 pub returns-then-count-second : goal.returns-then-count-second
-returns-then-count-second c = let s = c in other-count s.args.first s.args.second s.requires.0 s.requires.1 c.if-count-second.true
+returns-then-count-second c = other-count c.args.first c.args.second c.requires.0 c.requires.1 c.if-count-second.true
 
 pub loop-i-init : goal.loop-i-init
 loop-i-init c = (omega arith, λ j h. absurd (omega (arith, h)))
 
-pub offset_bounds-a-i : goal.offset_bounds-a-i
-offset_bounds-a-i c = omega arith
-
-pub bounds-a-i : goal.bounds-a-i
-bounds-a-i c = omega arith
-
-pub offset_bounds-b-i : goal.offset_bounds-b-i
-offset_bounds-b-i c = omega arith
-
-pub bounds-b-i : goal.bounds-b-i
-bounds-b-i c = omega arith
-
 pub returns-then-not-same_task : goal.returns-then-not-same_task
 returns-then-not-same_task c =
-    let t = c in
-    let l = t in
-    let s = l in
-    other-task s.args.first s.args.second s.requires.0 s.requires.1 l.if-count-second.false l.loop-i.i (omega arith) (sym t.same_task.ensures ∙ c.if-not-same_task.true)
-
-pub overflow_add-i : goal.overflow_add-i
-overflow_add-i c = omega arith
-
-pub loop-i-smaller : goal.loop-i-smaller
-loop-i-smaller c = omega arith
+    other-task c.args.first c.args.second c.requires.0 c.requires.1 c.if-count-second.false c.loop-i.i (omega arith) (sym c.same_task.ensures ∙ c.if-not-same_task.true)
 
 pub loop-i-preserved : goal.loop-i-preserved
 loop-i-preserved c =
-    let t = c in
-    let l = t in
-    let a = l.args in
-    (omega arith, λ j h. more a.first.tasks a.second.tasks l.loop-i.i l.loop-i.invariant.1 (sym t.same_task.ensures ∙ c.if-not-same_task.false) j h (ℕ_discrete j l.loop-i.i))
+    let a = c.args in
+    (omega arith, λ j h. more a.first.tasks a.second.tasks c.loop-i.i c.loop-i.invariant.1 (sym c.same_task.ensures ∙ c.if-not-same_task.false) j h (ℕ_discrete j c.loop-i.i))
 
 pub returns : goal.returns
 returns c =
-    let l = c in
-    let s = l in
-    all_same s.args.first s.args.second s.requires.0 s.requires.1 l.if-count-second.false (λ i h. l.loop-i.invariant.1 i (omega (arith, h, c.loop-i-test.false)))
+    all_same c.args.first c.args.second c.requires.0 c.requires.1 c.if-count-second.false (λ i h. c.loop-i.invariant.1 i (omega (arith, h, c.loop-i-test.false)))

@@ -1,18 +1,13 @@
 -- `combine::same_tasks` meets its contract: the tasks before i are the same.
 -- Assumes nothing.
-use mathlib.Core.Path.{◌≡◌, sym, subst, ◌∙◌}
+use mathlib.Core.Path.{◌≡◌}
 use mathlib.Core.Bool.{true}
 use mathlib.Core.List.{List}
-use Prim.Native.Nat.{ℕ, ◌+◌, ◌-◌, ◌≤◌, ◌<◌}
-use native.Mathlib.Decide.{ℕ_discrete}
-use native.Mathlib.Omega.{arith}
+use Prim.Native.Nat.{ℕ, ◌-◌, ◌≤◌, ◌<◌}
 use lib.ListN.{get_or}
 use Rattle.model.specs.Combine.{same_task}
 use Rattle.plan.specs.declared.Task.{Task}
 use Rattle.plan.specs.View.{empty_task, task_view}
-use Rattle.combine.proofs.Tasks.{other-count, other-task, all_same}
-use borrow.Author.Tests.{not-true, not-false}
-use borrow.Author.Rules.{rules}
 use Rattle.combine.proofs.same_tasks.Given as goal
 
 -- the tasks of two lists are the same below i, and at i

@@ -1,6 +1,5 @@
 -- `controller::no_part` meets its contract.
 -- Assumes nothing.
-use Rattle.std.proofs.Common.{rules}
 use Rattle.controller.specs.View.{no_part}
 use Rattle.controller.proofs.no_part.Goals as goal
 

@@ -1,6 +1,6 @@
 -- `controller::read` meets its contract: one of the sixteen bytes, or none of them.
 -- Assumes nothing.
-use Rattle.std.proofs.Common.{ℕ, ◌≤◌, List, length, get_or, sym, ap, rules}
+use Rattle.std.proofs.Common.{ℕ, ◌≤◌, List, length, get_or, sym, ap}
 use lib.ListN.{get_or-eq_default}
 use Rattle.model.specs.Bytes.{bytes}
 use Rattle.model.specs.Controller as model

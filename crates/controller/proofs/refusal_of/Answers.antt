@@ -1,6 +1,6 @@
 -- `controller::refusal_of` meets its contract: each return by the tests before it.
 -- Assumes nothing.
-use Rattle.std.proofs.Common.{sym, ◌∙◌, rules}
+use Rattle.std.proofs.Common.{sym, ◌∙◌}
 use Rattle.controller.proofs.Writes.{label-write, mask-write, other-write, refusal_by}
 use Rattle.controller.proofs.refusal_of.Goals as goal
 
@@ -12,10 +12,8 @@ returns-then-byte-eq-MASK c = refusal_by _ _ (mask-write _ _ c.if-byte-eq-MASK.t
 
 pub returns-then-runs : goal.returns-then-runs
 returns-then-runs c =
-    let r = c in
-    refusal_by _ _ (other-write _ _ r.if-byte-eq-LABEL.false r.if-byte-eq-MASK.false (sym r.runs.ensures ∙ c.if-runs.true))
+    refusal_by _ _ (other-write _ _ c.if-byte-eq-LABEL.false c.if-byte-eq-MASK.false (sym c.runs.ensures ∙ c.if-runs.true))
 
 pub returns : goal.returns
 returns c =
-    let r = c in
-    refusal_by _ _ (other-write _ _ r.if-byte-eq-LABEL.false r.if-byte-eq-MASK.false (sym r.runs.ensures ∙ c.if-runs.false))
+    refusal_by _ _ (other-write _ _ c.if-byte-eq-LABEL.false c.if-byte-eq-MASK.false (sym c.runs.ensures ∙ c.if-runs.false))

@@ -1,6 +1,6 @@
 -- `controller::registers` meets its contract: the bytes one by one.
 -- Assumes nothing.
-use Rattle.std.proofs.Common.{ℕ, [], ◌∷◌, ◌++◌, ap, rules}
+use Rattle.std.proofs.Common.{ℕ, [], ◌∷◌, ◌++◌, ap}
 use Rattle.model.specs.Bytes.{bytes}
 use Rattle.model.specs.Controller as model
 use Rattle.controller.proofs.registers.Goals as goal

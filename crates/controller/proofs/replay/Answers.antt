@@ -1,21 +1,18 @@
 -- `controller::replay` meets its contract: the plan's fault, or the registers after the writes.
 -- Assumes nothing.
-use Rattle.std.proofs.Common.{sym, ap, ◌∙◌, rules}
+use Rattle.std.proofs.Common.{sym, ap, ◌∙◌}
 use Rattle.model.specs.Plan.{faulty}
 use Rattle.controller.proofs.Replays.{no_block, block-left}
 use Rattle.controller.proofs.replay.Goals as goal
 
 pub registers_after-requires : goal.registers_after-requires
-registers_after-requires c = let s = c in (s.set_up-set.ensures.taken c.in-Sound.is).2.ready
+registers_after-requires c = (c.set_up-set.ensures.taken c.in-Sound.is).2.ready
 
 pub returns-in-Faulty : goal.returns-in-Faulty
 returns-in-Faulty c =
-    let s = c in
-    no_block _ _ _ _ ((s.set_up-set.ensures.refused _ c.in-Faulty.is).0 ∙ ap faulty (sym c.number.ensures))
+    no_block _ _ _ _ ((c.set_up-set.ensures.refused _ c.in-Faulty.is).0 ∙ ap faulty (sym c.number.ensures))
 
 pub returns-in-Sound : goal.returns-in-Sound
 returns-in-Sound c =
-    let r = c in
-    let s = r in
-    let t = s.set_up-set.ensures.taken r.in-Sound.is in
-    block-left _ _ _ t.0 t.1 _ t.2 _ _ r.registers_after.ensures c.last_refusal.ensures
+    let t = c.set_up-set.ensures.taken c.in-Sound.is in
+    block-left _ _ _ t.0 t.1 _ t.2 _ _ c.registers_after.ensures c.last_refusal.ensures

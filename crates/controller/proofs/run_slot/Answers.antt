@@ -1,29 +1,16 @@
 -- `controller::run_slot` meets its contract: the label is admitted or not, and the slot is the rule's.
 -- Assumes nothing.
-use Rattle.std.proofs.Common.{◌≡◌, suc, ◌-◌, arith, rules}
+use Rattle.std.proofs.Common.{◌≡◌, suc, ◌-◌, arith}
 use Rattle.controller.proofs.Slots.{stays, goes}
 use Rattle.controller.proofs.run_slot.Goals as goal
 
-pub next_state-to-requires : goal.next_state-to-requires
-next_state-to-requires c = c.requires.state
-
 pub returns-then-to-eq0 : goal.returns-then-to-eq0
 returns-then-to-eq0 c =
-    let n = c in
-    stays _ _ _ n.requires _ n.next_state-to.ensures c.if-to-eq0.true
-
-pub slot-done-requires : goal.slot-done-requires
-slot-done-requires c = let s = c in (s.requires.ruled, s.requires.cells)
-
-pub overflow_sub-state : goal.overflow_sub-state
-overflow_sub-state c = omega (arith, c.if-to-eq0.false)
+    stays _ _ _ c.requires _ c.next_state-to.ensures c.if-to-eq0.true
 
 pub returns : goal.returns
 returns c =
-    let ran = c in
-    let d = ran in
-    let n = d in
-    let to = n.next_state-to.result in
-    let more : to ≡ suc (to - 1) = omega (arith, d.if-to-eq0.false) in
-    goes _ _ _ n.requires to n.next_state-to.ensures (to - 1) more d.slot-done.result d.slot-done.ensures _ _ _
-    ran.status_of-status.ensures ran.task_number-ran.ensures c.wrapping_add_u32-gain.ensures
+    let to = c.next_state-to.result in
+    let more : to ≡ suc (to - 1) = omega (arith, c.if-to-eq0.false) in
+    goes _ _ _ c.requires to c.next_state-to.ensures (to - 1) more c.slot-done.result c.slot-done.ensures _ _ _
+    c.status_of-status.ensures c.task_number-ran.ensures c.wrapping_add_u32-gain.ensures.value

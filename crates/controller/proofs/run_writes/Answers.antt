@@ -1,21 +1,14 @@
 -- `controller::run_writes` meets its contract: each turn makes one write, and the rest are still to be made.
 -- Assumes nothing.
-use Rattle.std.proofs.Common.{◌-◌, length, rules}
-use Rattle.controller.proofs.Reached.{Reached, reached-start, reached-next, reached-end}
+use Rattle.controller.proofs.Reached.{reached-start, reached-next, reached-end}
 use Rattle.controller.proofs.run_writes.Goals as goal
 
 pub loop-i-init : goal.loop-i-init
 loop-i-init c = reached-start _ _ _ _ c.requires
 
-pub step-after-requires : goal.step-after-requires
-step-after-requires c = c.loop-i.invariant.ready
-
 pub loop-i-preserved : goal.loop-i-preserved
 loop-i-preserved c =
-    let b = c in
-    let t = b in
-    let l = t in
-    reached-next _ _ _ _ _ _ l.loop-i.invariant _ b.byte-byte.ensures.0 c.step-after.result t.loop-i-test.true c.step-after.ensures.becomes
+    reached-next _ _ _ _ _ _ c.loop-i.invariant _ c.byte-byte.ensures.0 c.step-after.result c.loop-i-test.true c.step-after.ensures.becomes
 
 pub returns : goal.returns
-returns c = let l = c in reached-end _ _ _ _ _ _ l.loop-i.invariant c.loop-i-test.false
+returns c = reached-end _ _ _ _ _ _ c.loop-i.invariant c.loop-i-test.false

@@ -1,7 +1,7 @@
 -- `controller::run_writes` meets its contract: each turn makes one write, and the rest are still to be made.
 -- Assumes nothing.
-use Rattle.std.proofs.Common.{◌-◌, length, rules}
-use Rattle.controller.proofs.Reached.{Reached, reached-start, reached-next, reached-end}
+use Rattle.std.proofs.Common.{◌-◌, length}
+use Rattle.controller.proofs.Reached.{Reached}
 use Rattle.controller.proofs.run_writes.Given as goal
 
 abbrev pub invariant-loop-i : goal.invariant-loop-i

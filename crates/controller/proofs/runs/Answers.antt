@@ -5,7 +5,7 @@ use Rattle.controller.proofs.Writes.{other_byte, by_value}
 use Rattle.controller.proofs.runs.Goals as goal
 
 pub returns-then-byte-ne-RUN : goal.returns-then-byte-ne-RUN
-returns-then-byte-ne-RUN c = let s = c in sym (other_byte s.args.byte s.args.value c.if-byte-ne-RUN.true)
+returns-then-byte-ne-RUN c = sym (other_byte c.args.byte c.args.value c.if-byte-ne-RUN.true)
 
 pub returns : goal.returns
-returns c = let s = c in sym (by_value s.args.byte s.args.value c.if-byte-ne-RUN.false)
+returns c = sym (by_value c.args.byte c.args.value c.if-byte-ne-RUN.false)

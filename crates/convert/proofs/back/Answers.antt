@@ -11,14 +11,11 @@ returns-then-out-lt-FIRST_PLAN_ROOM c = sends_back _ _ _ _ (λ i. (c.type_inv.pl
 
 pub returns-in-Faulty : goal.returns-in-Faulty
 returns-in-Faulty c =
-    let r = c in
-    sends_back _ _ _ _ (λ i. (r.type_inv.plan i).fits)
-    (told-refusal _ _ _ _ (by_long _ _ _ r.if-out-lt-FIRST_PLAN_ROOM.false (read_as (plan_of r.read-read.result.plan) r.read-read.ensures.1 c.in-Faulty.is)))
+    sends_back _ _ _ _ (λ i. (c.type_inv.plan i).fits)
+    (told-refusal _ _ _ _ (by_long _ _ _ c.if-out-lt-FIRST_PLAN_ROOM.false (read_as (plan_of c.read-read.result.plan) c.read-read.ensures.1 c.in-Faulty.is)))
 
 pub returns-in-Sound : goal.returns-in-Sound
 returns-in-Sound c =
-    let w = c in
-    let r = w in
-    let P = plan_of r.read-read.result.plan in
-    sends_back _ _ _ _ (λ i. (r.type_inv.plan i).fits)
-    (told_by (by_long _ _ _ r.if-out-lt-FIRST_PLAN_ROOM.false (read_as P r.read-read.ensures.1 w.in-Sound.is)) w.back_in.ensures)
+    let P = plan_of c.read-read.result.plan in
+    sends_back _ _ _ _ (λ i. (c.type_inv.plan i).fits)
+    (told_by (by_long _ _ _ c.if-out-lt-FIRST_PLAN_ROOM.false (read_as P c.read-read.ensures.1 c.in-Sound.is)) c.back_in.ensures)

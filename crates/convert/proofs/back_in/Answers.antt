@@ -16,16 +16,12 @@ returns-then-not-says_all c = not_said c.args.plan _ (rw c.first-first.ensures a
 
 pub write_in-requires : goal.write_in-requires
 write_in-requires c =
-    let t = c in
-    let first = t.first-first.ensures in
-    let s = t in
-    let locks = locks_said (edition_of t.first-first.result) (plan_of s.args.plan).tasks (sym t.says_all.ensures ∙ c.if-not-says_all.false) in
-    (inl (ap (λ (e : Edition). e.value_width) first), s.requires.0, locks, subst (λ (e : Edition). plan_room_in e ≤ length s.args.out.now) (sym first) s.requires.1)
+    let first = c.first-first.ensures in
+    let locks = locks_said (edition_of c.first-first.result) (plan_of c.args.plan).tasks (sym c.says_all.ensures ∙ c.if-not-says_all.false) in
+    (inl (ap (λ (e : Edition). e.value_width) first), c.requires.0, locks, subst (λ (e : Edition). plan_room_in e ≤ length c.args.out.now) (sym first) c.requires.1)
 
 pub returns : goal.returns
 returns c =
-    let w = c in
-    let t = w in
-    let first = t.first-first.ensures in
-    let put = rw first at w.write_in.ensures in
-    said t.args.plan _ (rw first at (sym t.says_all.ensures ∙ w.if-not-says_all.false)) _ _ put.value put.out_after
+    let first = c.first-first.ensures in
+    let put = rw first at c.write_in.ensures in
+    said c.args.plan _ (rw first at (sym c.says_all.ensures ∙ c.if-not-says_all.false)) _ _ put.value put.out_after

@@ -18,18 +18,13 @@ read_in-read-requires c = inl (ap (λ (e : Edition). e.value_width) c.first.ensu
 
 pub returns-in-Faulty : goal.returns-in-Faulty
 returns-in-Faulty c =
-    let r = c in
-    let f = r in
-    let read = rw f.first.ensures at r.read_in-read.ensures.1 in
-    sends_forth _ _ _ _ (λ i. (f.type_inv.plan i).fits)
-    (told-refusal _ _ _ _ (by_first _ _ _ f.if-out-lt-PLAN_ROOM.false (read_as (plan_of r.read_in-read.result.plan) read c.in-Faulty.is)))
+    let read = rw c.first.ensures at c.read_in-read.ensures.1 in
+    sends_forth _ _ _ _ (λ i. (c.type_inv.plan i).fits)
+    (told-refusal _ _ _ _ (by_first _ _ _ c.if-out-lt-PLAN_ROOM.false (read_as (plan_of c.read_in-read.result.plan) read c.in-Faulty.is)))
 
 pub returns-in-Sound : goal.returns-in-Sound
 returns-in-Sound c =
-    let w = c in
-    let r = w in
-    let f = r in
-    let P = plan_of r.read_in-read.result.plan in
-    let read = rw f.first.ensures at r.read_in-read.ensures.1 in
-    sends_forth _ _ _ _ (λ i. (f.type_inv.plan i).fits)
-    (told-written plan_bytes _ P _ _ _ (by_first _ _ _ f.if-out-lt-PLAN_ROOM.false (read_as P read w.in-Sound.is)) w.write.ensures.value w.write.ensures.out_after)
+    let P = plan_of c.read_in-read.result.plan in
+    let read = rw c.first.ensures at c.read_in-read.ensures.1 in
+    sends_forth _ _ _ _ (λ i. (c.type_inv.plan i).fits)
+    (told-written plan_bytes _ P _ _ _ (by_first _ _ _ c.if-out-lt-PLAN_ROOM.false (read_as P read c.in-Sound.is)) c.write.ensures.value c.write.ensures.out_after)

@@ -1,24 +1,15 @@
 -- `cycle::follow` meets its contract: one step after another. Assumes nothing.
-use mathlib.Core.Path.{◌≡◌, refl, sym, ap, subst, ◌∙◌}
-use mathlib.Core.Bool.{true≢false}
+use mathlib.Core.Path.{◌≡◌}
 use Prim.Native.Nat.{◌-◌, ◌*◌, ◌≤◌, ◌<◌}
-use native.Mathlib.Omega.{arith}
 use lib.ListN.{drop}
-use borrow.Author.Rules.{rules}
-use borrow.Author.Tests.{not-true, not-false}
 use Rattle.model.specs.Edition.{long_reads}
 use Rattle.model.specs.Check.{follow}
 use Rattle.model.specs.Limits.{max_tasks, max_value, max_states}
 use Rattle.model.specs.Masks.{mask_count}
-use Rattle.words.specs.Packed.{unpacked}
-use Rattle.certificate.specs.View.{step_size, step_in, step_at, certificate_of}
-use Rattle.certificate.proofs.Runs.{items-length}
-use Rattle.certificate.proofs.Placed.{placed}
+use Rattle.certificate.specs.View.{certificate_of}
 use Rattle.policy.specs.View.{cell_count, Cells, tasks_in}
 use Rattle.graph.specs.View.{plan_by}
-use Rattle.cycle.specs.Cycle.{reached_in}
-use Rattle.cycle.specs.declared.Walked.{Walked}
-use Rattle.cycle.proofs.Steps.{here, step_lost, step-taken, steps-done}
+use Rattle.cycle.proofs.Steps.{here}
 use Rattle.cycle.proofs.follow.Given as goal
 
 abbrev pub invariant-loop-j : goal.invariant-loop-j

@@ -29,7 +29,7 @@ relax_node-tried-requires c =
 pub shape_of-m-then-tried-ne0 : goal.shape_of-m-then-tried-ne0
 shape_of-m-then-tried-ne0 c =
     let call = c in
-    call.relax_node-tried.auto.1.1.1.1.1.0 ∙ call.loop-u.invariant.2
+    call.relax_node-tried.auto.m ∙ call.loop-u.invariant.2
 
 pub returns-then-tried-ne0 : goal.returns-then-tried-ne0
 returns-then-tried-ne0 c = let call = c in
@@ -60,7 +60,7 @@ loop-u-preserved c =
     let l = head.loop-u in (
       omega arith,
       call.relax_node-tried.ensures.notes_free.long ∙ l.invariant.1,
-      call.relax_node-tried.auto.1.1.1.1.1.0 ∙ l.invariant.2,
+      call.relax_node-tried.auto.m ∙ l.invariant.2,
       λ P s.
           let b = l.invariant.3 P s in
           tried-more head.loop-u-test.true b (call.relax_node-tried.ensures.relaxes_node P (sought-after b.advance refl s)) c.if-tried-ne0.false,

@@ -20,10 +20,7 @@ returns-then-labels-label c =
 
 pub returns : goal.returns
 returns c =
-    let r = c in
-    let l = r in
-    let s = l in
-    let a = s.args in
+    let a = c.args in
     c.next_entry.ensures
-    ∙ ap (λ (n : ℕ). entry_of (gap_next a.gap.slots a.state n)) r.releases.ensures
-    ∙ by_releases a.gap a.state a.label l.if-gap-state.false s.requires (omega (arith, l.labels.ensures, r.if-labels-label.false))
+    ∙ ap (λ (n : ℕ). entry_of (gap_next a.gap.slots a.state n)) c.releases.ensures
+    ∙ by_releases a.gap a.state a.label c.if-gap-state.false c.requires (omega (arith, c.labels.ensures, c.if-labels-label.false))

@@ -8,19 +8,17 @@ use Rattle.gap.proofs.Answers.{no_gap, long_gap, no_task_lem, foreign-task, gap_
 use Rattle.gap.proofs.gap_in.Goals as goal
 
 pub returns-then-slots-lt1 : goal.returns-then-slots-lt1
-returns-then-slots-lt1 c = let s = c in no_gap s.args.plan s.requires.0 s.args.set s.args.slots _ c.if-slots-lt1.true
+returns-then-slots-lt1 c = no_gap c.args.plan c.requires.0 c.args.set c.args.slots _ c.if-slots-lt1.true
 
 pub returns-then-slots-gt-MAX_GAP : goal.returns-then-slots-gt-MAX_GAP
-returns-then-slots-gt-MAX_GAP c = let s = c in long_gap s.args.plan s.requires.0 s.args.set s.args.slots _ c.if-slots-gt-MAX_GAP.true
+returns-then-slots-gt-MAX_GAP c = long_gap c.args.plan c.requires.0 c.args.set c.args.slots _ c.if-slots-gt-MAX_GAP.true
 
 pub returns-then-set-lt1 : goal.returns-then-set-lt1
-returns-then-set-lt1 c = let s = c in no_task_lem s.args.plan s.requires.0 s.args.set s.args.slots _ c.if-set-lt1.true
+returns-then-set-lt1 c = no_task_lem c.args.plan c.requires.0 c.args.set c.args.slots _ c.if-set-lt1.true
 
 pub returns-then-labels-set : goal.returns-then-labels-set
 returns-then-labels-set c =
-    let l = c in
-    let s = l in
-    foreign-task s.args.plan s.requires.0 s.args.set s.args.slots _ (omega (arith, l.if-set-lt1.false)) (omega (arith, l.labels.ensures, c.if-labels-set.true))
+    foreign-task c.args.plan c.requires.0 c.args.set c.args.slots _ (omega (arith, c.if-set-lt1.false)) (omega (arith, c.labels.ensures, c.if-labels-set.true))
 
 -- a set of a plan's tasks is a byte
 pub overflow_cast-set : goal.overflow_cast-set
@@ -32,9 +30,5 @@ overflow_cast-set c =
 
 pub returns : goal.returns
 returns c =
-    let w = c in
-    let g = w in
-    let l = g in
-    let s = l in
-    gap_written s.args.plan s.requires.0 s.args.set s.args.slots _ (omega arith) (omega (arith, l.labels.ensures, g.if-labels-set.false)) (omega arith) (omega arith)
-    g.with_gap-written.result g.with_gap-written.ensures.1 _ _ w.write.ensures.value w.write.ensures.out_after
+    gap_written c.args.plan c.requires.0 c.args.set c.args.slots _ (omega arith) (omega (arith, c.labels.ensures, c.if-labels-set.false)) (omega arith) (omega arith)
+    c.with_gap-written.result c.with_gap-written.ensures.1 _ _ c.write.ensures.value c.write.ensures.out_after

@@ -15,9 +15,8 @@ returns-then-released-gt1 c = let a = c.args in crowded a.slots a.state a.releas
 
 pub returns-then-state-eq0-2 : goal.returns-then-state-eq0-2
 returns-then-state-eq0-2 c =
-    let s = c in
-    let a = s.args in
-    opened a.slots a.state a.released (omega (arith, c.if-released-eq0.false, c.if-released-gt1.false)) c.if-state-eq0-2.true s.requires
+    let a = c.args in
+    opened a.slots a.state a.released (omega (arith, c.if-released-eq0.false, c.if-released-gt1.false)) c.if-state-eq0-2.true c.requires
 
 pub returns : goal.returns
 returns c =

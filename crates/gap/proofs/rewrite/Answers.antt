@@ -5,5 +5,4 @@ use Rattle.gap.proofs.rewrite.Goals as goal
 
 pub returns : goal.returns
 returns c =
-    let w = c in
-    by_set w.set_of.ensures w.rewrite_set.ensures
+    by_set c.set_of.ensures c.rewrite_set.ensures

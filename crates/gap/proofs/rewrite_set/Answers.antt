@@ -11,12 +11,9 @@ returns-then-out-lt-PLAN_ROOM c = told-refusal _ _ _ _ (short _ _ _ _ c.if-out-l
 
 pub returns-in-Faulty : goal.returns-in-Faulty
 returns-in-Faulty c =
-    let r = c in
-    told-refusal _ _ _ _ (by_reading _ _ _ _ _ r.if-out-lt-PLAN_ROOM.false (read_as (plan_of r.read-read.result.plan) r.read-read.ensures.1 c.in-Faulty.is))
+    told-refusal _ _ _ _ (by_reading _ _ _ _ _ c.if-out-lt-PLAN_ROOM.false (read_as (plan_of c.read-read.result.plan) c.read-read.ensures.1 c.in-Faulty.is))
 
 pub returns-in-Sound : goal.returns-in-Sound
 returns-in-Sound c =
-    let w = c in
-    let r = w in
-    let P = plan_of r.read-read.result.plan in
-    told_by (by_reading _ _ _ _ _ r.if-out-lt-PLAN_ROOM.false (read_as P r.read-read.ensures.1 w.in-Sound.is)) w.gap_in.ensures
+    let P = plan_of c.read-read.result.plan in
+    told_by (by_reading _ _ _ _ _ c.if-out-lt-PLAN_ROOM.false (read_as P c.read-read.ensures.1 c.in-Sound.is)) c.gap_in.ensures

@@ -18,30 +18,13 @@ size e = ap length e ∙ length-replicate {A = ℕ} pair_count 0
 pub loop-k-init : goal.loop-k-init
 loop-k-init c = (omega arith, sym (overwrite-none _ 0))
 
-pub overflow_cast-k : goal.overflow_cast-k
-overflow_cast-k c = omega arith
-
-pub overflow_cast-k-in-loop-k : goal.overflow_cast-k-in-loop-k
-overflow_cast-k-in-loop-k c = omega arith
-
-pub bounds-next-k : goal.bounds-next-k
-bounds-next-k c = omega arith
-
-pub overflow_add-k : goal.overflow_add-k
-overflow_add-k c = omega arith
-
-pub loop-k-smaller : goal.loop-k-smaller
-loop-k-smaller c = omega arith
-
 pub loop-k-preserved : goal.loop-k-preserved
 loop-k-preserved c =
-    let l = c in
-    let k = l.loop-k.k in
-    let t = l.empty_table-next in
-    (omega arith, written-more (pair_entry l.args.gap) 0 t.result 0 k k k (omega arith) (omega arith) (omega (arith, size t.ensures)) c.entry.ensures l.loop-k.invariant.1)
+    let k = c.loop-k.k in
+    let t = c.empty_table-next in
+    (omega arith, written-more (pair_entry c.args.gap) 0 t.result 0 k k k (omega arith) (omega arith) (omega (arith, size t.ensures)) c.entry.ensures c.loop-k.invariant.1)
 
 pub returns : goal.returns
 returns c =
-    let l = c in
-    let t = l.empty_table-next in
-    written_all (pair_entry l.args.gap) 0 t.result l.loop-k.k pair_count (omega arith) (sym (size t.ensures)) l.loop-k.invariant.1
+    let t = c.empty_table-next in
+    written_all (pair_entry c.args.gap) 0 t.result c.loop-k.k pair_count (omega arith) (sym (size t.ensures)) c.loop-k.invariant.1

@@ -5,8 +5,7 @@ use Rattle.gap.proofs.with_gap.Goals as goal
 
 pub returns : goal.returns
 returns c =
-    let s = c in
-    let a = s.args in (
-      replaced_sized a.plan s.requires.0 a.set a.slots c.table-next.result c.table-next.ensures,
-      replaced-plan a.plan s.requires.0 a.set a.slots c.table-next.result c.table-next.ensures s.requires.1 s.requires.2,
+    let a = c.args in (
+      replaced_sized a.plan c.requires.0 a.set a.slots c.table-next.result c.table-next.ensures,
+      replaced-plan a.plan c.requires.0 a.set a.slots c.table-next.result c.table-next.ensures c.requires.1 c.requires.2,
     )

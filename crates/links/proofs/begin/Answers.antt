@@ -1,6 +1,5 @@
 -- `links::begin` meets its contract: no link, and then the start node's.
 -- Assumes nothing.
-use borrow.Author.Rules.{rules}
 use Rattle.links.proofs.Cleared.{begins}
 use Rattle.links.proofs.begin.Goals as goal
 

@@ -5,7 +5,6 @@ use mir.Syntax.{w64}
 use mir.Facts.{to_z-of_z}
 use Prim.Native.Nat.{◌+◌}
 use lib.ListN.{get_or}
-use borrow.Author.Rules.{rules}
 use Rattle.links.specs.Links.{link_place}
 use Rattle.links.proofs.link_to.Goals as goal
 

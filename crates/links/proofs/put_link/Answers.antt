@@ -2,6 +2,7 @@
 -- Assumes nothing.
 use mathlib.Core.Path.{◌≡◌, sym, ◌∙◌, ap, subst}
 use mir.Syntax.{w64}
+use mir.Val.{SFits}
 use mir.Facts.{to_z-of_z}
 use Prim.Native.Nat.{◌+◌}
 use native.Mathlib.Omega.{arith}
@@ -20,12 +21,13 @@ shape_of-m c = simp length-set (c.write_u16.auto.s ∙ c.write_i64.auto.s)
 
 pub returns : goal.returns
 returns c =
+    let told : SFits w64 c.args.link.distance = search rules in
     let first : c.write_i64.new.s ≡ overwrite c.args.m.now (link_place c.args.v) (bytes 8 (complement c.args.link.distance))
     = c.write_i64.ensures
-    ∙ ap (λ z. overwrite c.args.m.now (link_place c.args.v) (bytes 8 (complement z))) (to_z-of_z {w = w64} (record { sfits = c.ranges.link.0 })) in
+    ∙ ap (λ z. overwrite c.args.m.now (link_place c.args.v) (bytes 8 (complement z))) (to_z-of_z {w = w64} told) in
     subst (Puts c.args.v c.args.link c.args.m.now)
     (sym
     (ap (λ x. set (set x (link_place c.args.v + 10) c.args.link.label) (link_place c.args.v + 11) c.args.link.mark)
     (c.write_u16.ensures ∙ ap (λ x. overwrite x (link_place c.args.v + 8) (bytes 2 c.args.link.parent)) first)
     ∙ link-written c.args.m.now (link_place c.args.v) c.args.link (omega (arith, c.requires))))
-    (puts c.args.link c.ranges.link.0 (omega (arith, c.requires)) c.args.m.now c.args.v c.requires.1 c.requires.0)
+    (puts c.args.link told.sfits (omega (arith, c.requires)) c.args.m.now c.args.v c.requires.1 c.requires.0)

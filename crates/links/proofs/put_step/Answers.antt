@@ -3,7 +3,6 @@
 use mathlib.Core.Path.{sym, ◌∙◌, ap, subst}
 use Prim.Native.Nat.{◌+◌}
 use native.Mathlib.Omega.{arith}
-use borrow.Author.Rules.{rules}
 use lib.ListN.{set}
 use Rattle.words.proofs.Memory.{overwrite-more}
 use Rattle.words.proofs.Numbers.{bytes-length}

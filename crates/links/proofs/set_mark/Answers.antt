@@ -1,6 +1,5 @@
 -- `links::set_mark` meets its contract: one byte is the mark.
 -- Assumes nothing.
-use borrow.Author.Rules.{rules}
 use Rattle.links.proofs.Written.{mark_written}
 use Rattle.links.proofs.set_mark.Goals as goal
 

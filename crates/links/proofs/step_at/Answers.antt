@@ -2,7 +2,6 @@
 -- Assumes nothing.
 use Prim.Native.Nat.{◌+◌}
 use lib.ListN.{get_or}
-use borrow.Author.Rules.{rules}
 use Rattle.links.specs.Links.{step_place}
 use Rattle.links.proofs.step_at.Goals as goal
 

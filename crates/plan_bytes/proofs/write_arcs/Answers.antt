@@ -13,28 +13,16 @@ use Rattle.plan_bytes.proofs.write_arcs.Goals as goal
 pub loop-k-init : goal.loop-k-init
 loop-k-init c = (omega arith, omega arith, refl, put-none _ _)
 
-pub bounds-next-k : goal.bounds-next-k
-bounds-next-k c = omega arith
-
-pub write_pair-end-requires : goal.write_pair-end-requires
-write_pair-end-requires c = (omega arith, omega arith)
-
 pub loop-k-preserved : goal.loop-k-preserved
 loop-k-preserved c =
-    let w = c in
-    let l = w in
-    let next = l.args.next.now in
-    let more = w.write_pair-end.ensures in
-    let fits : w.write_pair-end.result ≤ l.args.at + arc_size * (l.loop-k.k + 1) =
-    omega (arith, l.loop-k.invariant.1, more.next, pair_length l.loop-k.k (get_or next l.loop-k.k 0)) in
-    (omega arith, fits, w.write_pair-end.auto.out ∙ l.loop-k.invariant.2, arcs-more next l.loop-k.k l.loop-k.invariant.3 more (omega arith))
-
-pub shape_of-out : goal.shape_of-out
-shape_of-out c = c.loop-k.invariant.2
+    let next = c.args.next.now in
+    let more = c.write_pair-end.ensures in
+    let fits : c.write_pair-end.result ≤ c.args.at + arc_size * (c.loop-k.k + 1) =
+    omega (arith, c.loop-k.invariant.1, more.next, pair_length c.loop-k.k (get_or next c.loop-k.k 0)) in
+    (omega arith, fits, c.write_pair-end.auto.out ∙ c.loop-k.invariant.2, arcs-more next c.loop-k.k c.loop-k.invariant.3 more (omega arith))
 
 pub returns : goal.returns
 unfolding arcs_in
 returns c =
-    let l = c in
-    let e : l.loop-k.k ≡ pair_count = omega arith in
-    (rw e at l.loop-k.invariant.3, omega arith)
+    let e : c.loop-k.k ≡ pair_count = omega arith in
+    (rw e at c.loop-k.invariant.3, omega arith)

@@ -9,33 +9,18 @@ use Rattle.plan_bytes.proofs.write_locks.Goals as goal
 pub loop-i-init : goal.loop-i-init
 loop-i-init c = (omega arith, refl, put-none _ _)
 
-pub offset_bounds-tasks-i : goal.offset_bounds-tasks-i
-offset_bounds-tasks-i c = omega arith
-
-pub bounds-tasks-i : goal.bounds-tasks-i
-bounds-tasks-i c = omega arith
-
 pub write_lock-end-requires : goal.write_lock-end-requires
 write_lock-end-requires c =
-    let l = c in
-    let s = l in
-    (omega arith, omega (arith, s.requires.1, l.loop-i.invariant.1, l.loop-i.invariant.2.next, lock-fits s.args.tasks s.args.count l.loop-i.i (omega arith) (omega arith)))
+    (omega arith, omega (arith, c.requires.1, c.loop-i.invariant.1, c.loop-i.invariant.2.next, lock-fits c.args.tasks c.args.count c.loop-i.i (omega arith) (omega arith)))
 
 pub loop-i-preserved : goal.loop-i-preserved
 loop-i-preserved c =
-    let w = c in
-    let l = w in
-    let s = l in
-    let a = s.args in
-    let more = w.write_lock-end.ensures in
-    let fits = lock-fits a.tasks a.count l.loop-i.i (omega arith) (omega arith) in
-    (omega arith, w.write_lock-end.auto.out ∙ l.loop-i.invariant.1, locks-more a.tasks l.loop-i.i (omega arith) l.loop-i.invariant.2 more (omega (arith, fits, s.requires.1, more.next, l.loop-i.invariant.2.next)))
-
-pub shape_of-out : goal.shape_of-out
-shape_of-out c = c.loop-i.invariant.1
+    let a = c.args in
+    let more = c.write_lock-end.ensures in
+    let fits = lock-fits a.tasks a.count c.loop-i.i (omega arith) (omega arith) in
+    (omega arith, c.write_lock-end.auto.out ∙ c.loop-i.invariant.1, locks-more a.tasks c.loop-i.i (omega arith) c.loop-i.invariant.2 more (omega (arith, fits, c.requires.1, more.next, c.loop-i.invariant.2.next)))
 
 pub returns : goal.returns
 returns c =
-    let l = c in
-    let e : l.loop-i.i ≡ l.args.count = omega arith in
-    rw e at l.loop-i.invariant.2
+    let e : c.loop-i.i ≡ c.args.count = omega arith in
+    rw e at c.loop-i.invariant.2

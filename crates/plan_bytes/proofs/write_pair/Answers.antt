@@ -10,6 +10,5 @@ returns-then-entry-eq0 c = rw c.if-entry-eq0.true (put-none _ _)
 
 pub returns : goal.returns
 returns c =
-    let e = c in
-    let a = e.args in
-    rw (pair_bytes a.k a.entry (omega (arith, e.if-entry-eq0.false))) c.write_four.ensures
+    let a = c.args in
+    rw (pair_bytes a.k a.entry (omega (arith, c.if-entry-eq0.false))) c.write_four.ensures

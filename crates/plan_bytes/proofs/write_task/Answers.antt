@@ -22,25 +22,17 @@ two_bytes w v e h =
     let high : v / 256 < 256 = omega arith in
     ap (λ (k : ℕ). k ∷ v % 256 ∷ []) (sym (mod-eq_of_lt high)) ∙ ap (λ (k : ℕ). bytes k v) (sym e)
 
-pub write_four-requires : goal.write_four-requires
-write_four-requires c = let s = c in omega (arith, s.requires.1, c.if-edition-eq1.true)
-
 pub returns-then-edition-eq1 : goal.returns-then-edition-eq1
 returns-then-edition-eq1 c =
-    let t = c in
-    let s = t in
-    put_as (ap (λ (l : List ℕ). 0x01 ∷ s.args.t.work ∷ s.args.t.window ∷ l) (one_byte _ s.args.t.value t.if-edition-eq1.true)) c.write_four.ensures
+    put_as (ap (λ (l : List ℕ). 0x01 ∷ c.args.t.work ∷ c.args.t.window ∷ l) (one_byte _ c.args.t.value c.if-edition-eq1.true)) c.write_four.ensures
 
 pub write_four-end-requires : goal.write_four-end-requires
 write_four-end-requires c =
-    let s = c in
-    omega (arith, s.requires.1, two_else s.requires.0 c.if-edition-eq1.false)
+    omega (arith, c.requires.1, two_else c.requires.0 c.if-edition-eq1.false)
 
 pub bounds-out-end : goal.bounds-out-end
 bounds-out-end c =
-    let w = c in
-    let s = w in
-    omega (arith, s.requires.1, w.write_four-end.ensures.next, w.write_four-end.auto.out, two_else s.requires.0 w.if-edition-eq1.false)
+    omega (arith, c.requires.1, c.write_four-end.ensures.next, c.write_four-end.auto.out, two_else c.requires.0 c.if-edition-eq1.false)
 
 pub shape_of-out : goal.shape_of-out
 shape_of-out c = simp length-set c.write_four-end.auto.out

@@ -20,37 +20,22 @@ room w i n h = omega (arith, mul-suc w i, mul-le-mul_left w h)
 pub loop-i-init : goal.loop-i-init
 loop-i-init c = (omega arith, omega arith, refl, put-none _ 0)
 
-pub offset_bounds-tasks-i : goal.offset_bounds-tasks-i
-offset_bounds-tasks-i c = omega arith
-
-pub bounds-tasks-i : goal.bounds-tasks-i
-bounds-tasks-i c = omega arith
-
 pub write_task-end-requires : goal.write_task-end-requires
 write_task-end-requires c =
-    let l = c in
-    let s = l in
-    (s.requires.2, omega (arith, s.requires.1, l.loop-i.invariant.1, l.loop-i.invariant.2, room (task_width (edition_of s.args.edition)) l.loop-i.i s.args.count (omega arith)))
+    (c.requires.2, omega (arith, c.requires.1, c.loop-i.invariant.1, c.loop-i.invariant.2, room (task_width (edition_of c.args.edition)) c.loop-i.i c.args.count (omega arith)))
 
 pub loop-i-preserved : goal.loop-i-preserved
 loop-i-preserved c =
-    let w = c in
-    let l = w in
-    let s = l in
-    let a = s.args in
+    let a = c.args in
     let e = edition_of a.edition in
-    let t = get_or a.tasks l.loop-i.i empty_task in
-    let more = w.write_task-end.ensures in
-    let fits : w.write_task-end.result ≤ task_width e * (l.loop-i.i + 1) =
-    omega (arith, l.loop-i.invariant.1, more.next, task-length e (task_view t), mul-suc (task_width e) l.loop-i.i, ap (λ (k : ℕ). task_width e * k) (add-one l.loop-i.i)) in
-    let below : task_width e * (l.loop-i.i + 1) ≤ task_width e * a.count = mul-le-mul_left (task_width e) (omega arith) in
-    (omega arith, fits, w.write_task-end.auto.out ∙ l.loop-i.invariant.2, tasks-more e a.tasks l.loop-i.i (omega arith) l.loop-i.invariant.3 more (omega (arith, fits, below, s.requires.1)))
-
-pub shape_of-out : goal.shape_of-out
-shape_of-out c = c.loop-i.invariant.2
+    let t = get_or a.tasks c.loop-i.i empty_task in
+    let more = c.write_task-end.ensures in
+    let fits : c.write_task-end.result ≤ task_width e * (c.loop-i.i + 1) =
+    omega (arith, c.loop-i.invariant.1, more.next, task-length e (task_view t), mul-suc (task_width e) c.loop-i.i, ap (λ (k : ℕ). task_width e * k) (add-one c.loop-i.i)) in
+    let below : task_width e * (c.loop-i.i + 1) ≤ task_width e * a.count = mul-le-mul_left (task_width e) (omega arith) in
+    (omega arith, fits, c.write_task-end.auto.out ∙ c.loop-i.invariant.2, tasks-more e a.tasks c.loop-i.i (omega arith) c.loop-i.invariant.3 more (omega (arith, fits, below, c.requires.1)))
 
 pub returns : goal.returns
 returns c =
-    let l = c in
-    let e : l.loop-i.i ≡ l.args.count = omega arith in
-    (rw e at l.loop-i.invariant.3, rw e at l.loop-i.invariant.1)
+    let e : c.loop-i.i ≡ c.args.count = omega arith in
+    (rw e at c.loop-i.invariant.3, rw e at c.loop-i.invariant.1)

@@ -7,14 +7,14 @@ use borrow.Author.Rules.{rules}
 use Rattle.rewrite_plan.proofs.asked.Goals as goal
 
 pub returns-then-count-eq2 : goal.returns-then-count-eq2
-returns-then-count-eq2 c = let w = c.word_at.ensures in (w.0 ∷ [], c.alone.ensures ∙ ap alone_is w.1)
+returns-then-count-eq2 g c = let w = c.word_at.ensures in (w.0 ∷ [], c.alone.ensures ∙ ap alone_is w.1)
 
 pub returns-then-count-eq4 : goal.returns-then-count-eq4
-returns-then-count-eq4 c =
+returns-then-count-eq4 g c =
     let s = c.number_at-then-count-eq4.ensures in
     let n = c.number_at.ensures in
     let w = c.word_at-then-count-eq4.ensures in
     (w.0 ∷ n.0 ∷ s.0 ∷ [], c.counted.ensures ∙ (λ i. counted_is (w.1 i) (n.1 i) (s.1 i)))
 
 pub returns : goal.returns
-returns c = ([], refl)
+returns g c = ([], refl)

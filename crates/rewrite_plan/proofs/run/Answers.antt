@@ -12,16 +12,16 @@ decided : (n : ℕ) {a b : Command} → a ≡ b → Runs b n → Runs a n
 decided n e r = subst (λ (c : Command). Runs c n) (sym e) r
 
 pub returns-in-Space : goal.returns-in-Space
-returns-in-Space c = let w = c.rewrite_gap.ensures in decided c.rewrite_gap.result c.in-Space.is (w.0, (w.1, w.2, w.3, w.4))
+returns-in-Space g c = let w = c.rewrite_gap.ensures in decided c.rewrite_gap.result c.in-Space.is (w.0, (w.1, w.2, w.3, w.4))
 
 pub returns-in-Combine : goal.returns-in-Combine
-returns-in-Combine c = let w = c.combine_plans.ensures in decided c.combine_plans.result c.in-Combine.is (w.0, w.1, (w.2, w.3, w.4, w.5))
+returns-in-Combine g c = let w = c.combine_plans.ensures in decided c.combine_plans.result c.in-Combine.is (w.0, w.1, (w.2, w.3, w.4, w.5))
 
 pub returns-in-Forth : goal.returns-in-Forth
-returns-in-Forth c = let w = c.send_forth.ensures in decided c.send_forth.result c.in-Forth.is (w.0, (w.1, w.2, w.3, w.4))
+returns-in-Forth g c = let w = c.send_forth.ensures in decided c.send_forth.result c.in-Forth.is (w.0, (w.1, w.2, w.3, w.4))
 
 pub returns-in-Back : goal.returns-in-Back
-returns-in-Back c = let w = c.send_back.ensures in decided c.send_back.result c.in-Back.is (w.0, (w.1, w.2, w.3, w.4))
+returns-in-Back g c = let w = c.send_back.ensures in decided c.send_back.result c.in-Back.is (w.0, (w.1, w.2, w.3, w.4))
 
 pub returns-in-Unknown : goal.returns-in-Unknown
-returns-in-Unknown c = decided c.usage.result c.in-Unknown.is c.usage.ensures
+returns-in-Unknown g c = decided c.usage.result c.in-Unknown.is c.usage.ensures

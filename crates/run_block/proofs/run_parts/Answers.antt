@@ -10,13 +10,8 @@ use Rattle.policy.specs.declared.Rules.{Rules}
 use Rattle.controller.specs.declared.Block.{Block}
 use Rattle.block_text.specs.Lines.{part_bytes}
 use Rattle.block_text.proofs.Parts.{RunsTo, runs_none, runs_parts}
+use Rattle.run_block.proofs.run_parts.Invariants.{Through}
 use Rattle.run_block.proofs.run_parts.Goals as goal
-
--- the block after full parts
-record Through (r : Rules) (next : List ℕ) (b after : Block) : Type 0 where
-  writes : List ℕ
-  even : length writes % 2 ≡ 0
-  runs : RunsTo r next b writes after
 
 pub loop-turns-init : goal.loop-turns-init
 loop-turns-init c = record { writes = []; even = refl; runs = runs_none _ _ _ c.requires }

@@ -12,6 +12,12 @@ use Rattle.block_text.specs.Lines.{part_bytes}
 use Rattle.block_text.proofs.Parts.{RunsTo, runs_none, runs_parts}
 use Rattle.run_block.proofs.run_parts.Given as goal
 
+-- the block after full parts
+pub record Through (r : Rules) (next : List ℕ) (b after : Block) : Type 0 where
+  pub writes : List ℕ
+  pub even : length writes % 2 ≡ 0
+  pub runs : RunsTo r next b writes after
+
 abbrev pub invariant-loop-turns : goal.invariant-loop-turns
 invariant-loop-turns l = Through l.rules l.next l.initial.after l.after
 

@@ -4,23 +4,16 @@ use mathlib.Core.Path.{◌≡◌, refl, sym, ap, ◌∙◌}
 use mathlib.Core.Bool.{false}
 use mathlib.Core.List.{List, ◌∷◌}
 use mathlib.Core.Option.{Option, none, some}
-use borrow.Author.Rules.{rules}
-use Prim.Native.Nat.{ℕ, suc, ◌-◌, ◌≤◌, ◌<◌}
+use Prim.Native.Nat.{ℕ, suc, ◌-◌, ◌<◌}
 use native.Mathlib.Numerals.{add-one}
 use native.Mathlib.Omega.{arith}
 use lib.ListN.{length, get_or, drop, drop_of_length-le}
 use lib.Seq.{drop-cons}
-use Rattle.model.specs.Limits.{max_states}
 use Rattle.model.specs.Plan.{Plan, next_in}
 use Rattle.model.specs.Schedule.{admits, admits_from}
 use Rattle.plan.specs.View.{arcs_in, next_of, StatesFit}
+use Rattle.tracer.proofs.admitted.Invariants.{Reached}
 use Rattle.tracer.proofs.admitted.Goals as goal
-
--- the labels before a place are admitted, and lead to a state
-record Reached (next labels : List ℕ) (state i : ℕ) : Type 0 where
-  inside : i ≤ length labels
-  fits : state < max_states
-  rest : (P : Plan) → P.arcs ≡ arcs_in next → admits P labels ≡ admits_from P (drop i labels) state
 
 -- a step by the option that the label leads to
 admits-by : (P : Plan) (l : ℕ) (ls : List ℕ) (s : ℕ) (o : Option ℕ) → next_in P.arcs s l ≡ o →
@@ -49,26 +42,17 @@ module _ (next labels : List ℕ) (state i to : ℕ) (h : Reached next labels st
 pub loop-i-init : goal.loop-i-init
 loop-i-init c = record { inside = omega arith; fits = omega arith; rest = λ P e. refl }
 
-pub next_state-to-requires : goal.next_state-to-requires
-next_state-to-requires c = c.loop-i.invariant.fits
-
 pub returns-then-to-eq0 : goal.returns-then-to-eq0
 returns-then-to-eq0 c =
-    let l = c in
-    refused _ _ _ _ _ l.loop-i.invariant c.loop-i-test.true c.next_state-to.ensures c.if-to-eq0.true
-
-pub overflow_sub-state : goal.overflow_sub-state
-overflow_sub-state c = let h = c.if-to-eq0.false in omega arith
+    refused _ _ _ _ _ c.loop-i.invariant c.loop-i-test.true c.next_state-to.ensures c.if-to-eq0.true
 
 pub loop-i-preserved : goal.loop-i-preserved
 loop-i-preserved c =
-    let l = c in
     let n = c.next_state-to.result in
     let more : n ≡ suc (n - 1) = let h = c.if-to-eq0.false in omega arith in
-    rw (add-one l.loop-i.i)
-    (next-state _ _ _ _ _ l.loop-i.invariant c.loop-i-test.true c.next_state-to.ensures l.requires (n - 1) more)
+    rw (add-one c.loop-i.i)
+    (next-state _ _ _ _ _ c.loop-i.invariant c.loop-i-test.true c.next_state-to.ensures c.requires (n - 1) more)
 
 pub returns : goal.returns
 returns c P e =
-    let l = c in
-    sym (l.loop-i.invariant.rest P e ∙ ap (λ (ls : List ℕ). admits_from P ls l.loop-i.state) (drop_of_length-le _ c.loop-i-test.false))
+    sym (c.loop-i.invariant.rest P e ∙ ap (λ (ls : List ℕ). admits_from P ls c.loop-i.state) (drop_of_length-le _ c.loop-i-test.false))

@@ -1,20 +1,20 @@
 -- `tracer::admitted` meets its contract: before each label the plan admits the run exactly when it admits the rest from here.
 -- Assumes nothing.
-use mathlib.Core.Path.{◌≡◌, refl, sym, ap, ◌∙◌}
-use mathlib.Core.Bool.{false}
-use mathlib.Core.List.{List, ◌∷◌}
-use mathlib.Core.Option.{Option, none, some}
-use borrow.Author.Rules.{rules}
-use Prim.Native.Nat.{ℕ, suc, ◌-◌, ◌≤◌, ◌<◌}
-use native.Mathlib.Numerals.{add-one}
-use native.Mathlib.Omega.{arith}
-use lib.ListN.{length, get_or, drop, drop_of_length-le}
-use lib.Seq.{drop-cons}
+use mathlib.Core.Path.{◌≡◌}
+use mathlib.Core.List.{List}
+use Prim.Native.Nat.{ℕ, ◌-◌, ◌≤◌, ◌<◌}
+use lib.ListN.{length, drop}
 use Rattle.model.specs.Limits.{max_states}
-use Rattle.model.specs.Plan.{Plan, next_in}
+use Rattle.model.specs.Plan.{Plan}
 use Rattle.model.specs.Schedule.{admits, admits_from}
-use Rattle.plan.specs.View.{arcs_in, next_of, StatesFit}
+use Rattle.plan.specs.View.{arcs_in}
 use Rattle.tracer.proofs.admitted.Given as goal
+
+-- the labels before a place are admitted, and lead to a state
+pub record Reached (next labels : List ℕ) (state i : ℕ) : Type 0 where
+  pub inside : i ≤ length labels
+  pub fits : state < max_states
+  pub rest : (P : Plan) → P.arcs ≡ arcs_in next → admits P labels ≡ admits_from P (drop i labels) state
 
 abbrev pub invariant-loop-i : goal.invariant-loop-i
 invariant-loop-i l = Reached l.next l.labels l.state l.i

@@ -1,36 +1,25 @@
 -- `tracer::trace_plan` meets its contract: the tests on the labels are the definition's, and then the slots are written.
 -- Assumes nothing.
 use mathlib.Core.Path.{refl, sym, ◌∙◌}
-use borrow.Author.Tests.{not-true, not-false}
 use Rattle.plan.specs.View.{plan_of}
 use Rattle.refusals.proofs.Told.{told-refusal}
 use Rattle.tracer.proofs.Answers.{told-trace, too_many, not-admitted, all-admitted}
 use Rattle.policy.proofs.Plans.{states_fit_lem}
-use borrow.Author.Rules.{rules}
 use Rattle.tracer.proofs.trace_plan.Goals as goal
 
 pub returns-then-n-gt-MAX_LABELS : goal.returns-then-n-gt-MAX_LABELS
 returns-then-n-gt-MAX_LABELS c = told-refusal _ _ _ _ (too_many _ _ c.if-n-gt-MAX_LABELS.true)
 
 pub admitted-requires : goal.admitted-requires
-admitted-requires c = let s = c in states_fit_lem (plan_of s.args.plan) s.requires.1 _ refl
+admitted-requires c = states_fit_lem (plan_of c.args.plan) c.requires.1 _ refl
 
 pub returns-then-not-admitted : goal.returns-then-not-admitted
 returns-then-not-admitted c =
-    let a = c in
-    told-refusal _ _ _ _ (not-admitted _ _ a.if-n-gt-MAX_LABELS.false (sym (a.admitted.ensures _ refl) ∙ c.if-not-admitted.true))
-
-pub rules_of-requires : goal.rules_of-requires
-rules_of-requires c =
-    let s = c in
-    (s.requires.0, s.requires.1)
+    let P = plan_of c.args.plan in
+    told-refusal _ _ _ _ (not-admitted P _ c.if-n-gt-MAX_LABELS.false (sym (c.admitted.ensures P refl) ∙ c.if-not-admitted.true))
 
 pub returns : goal.returns
 returns c =
-    let w = c in
-    let r = w in
-    let a = r in
-    let s = a in
-    let P = plan_of s.args.plan in
-    told-trace _ P s.args.labels.now _ _ (all-admitted _ _ a.if-n-gt-MAX_LABELS.false (sym (a.admitted.ensures P refl) ∙ r.if-not-admitted.false))
-    (w.write_slots.ensures P (sym r.rules_of.ensures.tasks) (sym r.rules_of.ensures.policy))
+    let P = plan_of c.args.plan in
+    told-trace _ P c.args.labels.now _ _ (all-admitted _ _ c.if-n-gt-MAX_LABELS.false (sym (c.admitted.ensures P refl) ∙ c.if-not-admitted.false))
+    (c.write_slots.ensures P (sym c.rules_of.ensures.tasks) (sym c.rules_of.ensures.policy))

@@ -1,0 +1,8 @@
+-- `controller::write` meets its contract: nothing but the block is changed.
+-- Assumes nothing.
+use Rattle.controller.specs.View.{write_of}
+use Rattle.controller.proofs.After.{step-writes}
+use Rattle.controller.proofs.write.Goals as goal
+
+pub returns : goal.returns
+returns c = step-writes c.args.controller.now (write_of c.args.byte c.args.value) c.step_part-after.result c.step_part-after.ensures
