@@ -1,4 +1,4 @@
--- `check_text::put_check` meets its contract: a refusal is its line, a share its numbers. Assumes nothing.
+-- A refusal is its line, a share its numbers.
 use mathlib.Core.Path.{◌≡◌, sym, ap, ◌∙◌}
 use native.Mathlib.Omega.{arith}
 use Rattle.model.specs.Check.{CheckAnswer}
@@ -8,7 +8,6 @@ use Rattle.checker.specs.Promise.{answer_of}
 use Rattle.text.proofs.Decimal.{refused-length, decimal-length}
 use Rattle.words.proofs.Put.{put_as}
 use Rattle.text.proofs.Put.{counted}
-use borrow.Author.Rules.{rules}
 use Rattle.check_text.proofs.put_check.Goals as goal
 
 -- the text of an answer, by the answer that it is
@@ -22,11 +21,18 @@ put_refusal-requires c =
 
 pub returns-in-Refused : goal.returns-in-Refused
 unfolding check_text
-returns-in-Refused c = let put = c.put_refusal.ensures in
-    let number = c.number in
-    let check = c.check.ensures in
-    let n = number.result in record { put = put_as (ap refused_line number.ensures ∙ text_of c.in-Refused.is check.answer) put; prefix_len = counted _ _ (omega (arith, put.next, refused-length n, decimal-length 19 n (omega arith), c.requires)); work_after = check.memory }
+returns-in-Refused c =
+    let n = c.number.result in
+    record {
+      put = put_as (ap refused_line c.number.ensures ∙ text_of c.in-Refused.is c.check.ensures.answer) c.put_refusal.ensures;
+      prefix_len = counted _ _ (omega (arith, c.put_refusal.ensures.next, refused-length n, decimal-length 19 n (omega arith), c.requires));
+      work_after = c.check.ensures.memory;
+    }
 
 pub returns-in-Share : goal.returns-in-Share
-returns-in-Share c = let put = c.put_share.ensures in
-    let check = c.check.ensures in record { put = put_as (text_of c.in-Share.is check.answer) put.0; prefix_len = counted _ _ (omega (arith, put.1, c.requires)); work_after = check.memory }
+returns-in-Share c =
+    record {
+      put = put_as (text_of c.in-Share.is c.check.ensures.answer) c.put_share.ensures.put;
+      prefix_len = counted _ _ (omega (arith, c.put_share.ensures.upper_bound, c.requires));
+      work_after = c.check.ensures.memory;
+    }

@@ -1,5 +1,4 @@
--- `check_text::put_share` meets its contract: four fields, the thousandths and a line feed, one after the other.
--- Assumes nothing.
+-- Four fields, the thousandths and a line feed, one after the other.
 use mathlib.Core.List.{◌++◌}
 use Prim.Native.Nat.{ℕ, ◌^◌, ◌≤◌, ◌<◌}
 use native.Mathlib.Omega.{arith}
@@ -8,7 +7,6 @@ use Rattle.model.specs.Thousandths.{thousandths}
 use Rattle.model.specs.Text.{field, thousandths_text, check_text}
 use Rattle.text.proofs.Decimal.{decimal-length, field-length, three_length}
 use Rattle.words.proofs.Put.{put_join}
-use borrow.Author.Rules.{rules}
 use Rattle.check_text.proofs.put_share.Goals as goal
 
 -- a field of a number of 64 bits
@@ -17,62 +15,66 @@ field-most n h = omega (arith, field-length n, decimal-length 19 n (omega arith)
 
 pub put_three_fields-a-requires : goal.put_three_fields-a-requires
 put_three_fields-a-requires c =
-    let s = c in
-    let x = s.args in
-    let three = three_length x.p x.q x.n in
-    let p = field-most x.p (omega arith) in
-    let q = field-most x.q (omega arith) in
-    let n = field-most x.n (omega arith) in
-    let k = field-most x.k (omega arith) in
-    omega (arith, s.requires, three, p, q, n)
+    let x = c.args in
+    omega (
+      arith,
+      c.requires,
+      three_length x.p x.q x.n,
+      field-most x.p (omega arith),
+      field-most x.q (omega arith),
+      field-most x.n (omega arith),
+    )
 
 pub put_field-b-requires : goal.put_field-b-requires
 put_field-b-requires c =
-    let a = c in
-    let s = a in
-    let x = s.args in
-    let three = three_length x.p x.q x.n in
-    let p = field-most x.p (omega arith) in
-    let q = field-most x.q (omega arith) in
-    let n = field-most x.n (omega arith) in
-    let k = field-most x.k (omega arith) in
-    omega (arith, s.requires, a.put_three_fields-a.ensures.next, three, p, q, n, k)
+    let x = c.args in
+    omega (
+      arith,
+      c.requires,
+      c.put_three_fields-a.ensures.next,
+      three_length x.p x.q x.n,
+      field-most x.p (omega arith),
+      field-most x.q (omega arith),
+      field-most x.n (omega arith),
+      field-most x.k (omega arith),
+    )
 
 pub put_thousandths-c-requires : goal.put_thousandths-c-requires
 put_thousandths-c-requires c =
-    let f = c in
-    let a = f in
-    let s = a in
-    let x = s.args in
-    let three = three_length x.p x.q x.n in
-    let p = field-most x.p (omega arith) in
-    let q = field-most x.q (omega arith) in
-    let n = field-most x.n (omega arith) in
-    let k = field-most x.k (omega arith) in
-    omega (arith, s.requires, a.put_three_fields-a.ensures.next, f.put_field-b.ensures.next, three, p, q, n, k)
+    let x = c.args in
+    omega (
+      arith,
+      c.requires,
+      c.put_three_fields-a.ensures.next,
+      c.put_field-b.ensures.next,
+      three_length x.p x.q x.n,
+      field-most x.p (omega arith),
+      field-most x.q (omega arith),
+      field-most x.n (omega arith),
+      field-most x.k (omega arith),
+    )
 
 pub put_bytes-requires : goal.put_bytes-requires
 put_bytes-requires c =
-    let t = c in
-    let f = t in
-    let a = f in
-    let s = a in
-    let x = s.args in
-    let three = three_length x.p x.q x.n in
-    let p = field-most x.p (omega arith) in
-    let q = field-most x.q (omega arith) in
-    let n = field-most x.n (omega arith) in
-    let k = field-most x.k (omega arith) in
-    omega (arith, s.requires, a.put_three_fields-a.ensures.next, f.put_field-b.ensures.next, t.put_thousandths-c.ensures.upper_bound, three, p, q, n, k)
+    let x = c.args in
+    omega (
+      arith,
+      c.requires,
+      c.put_three_fields-a.ensures.next,
+      c.put_field-b.ensures.next,
+      c.put_thousandths-c.ensures.upper_bound,
+      three_length x.p x.q x.n,
+      field-most x.p (omega arith),
+      field-most x.q (omega arith),
+      field-most x.n (omega arith),
+      field-most x.k (omega arith),
+    )
 
 pub returns : goal.returns
 unfolding check_text
-returns c = let e = c in
-    let t = e in
-    let f = t in
-    let a = f in
-    let s = a in
-    let x = s.args in
+returns c =
+    let x = c.args in
+    let s = c.requires in
     let three = three_length x.p x.q x.n in
     let p = field-most x.p (omega arith) in
     let q = field-most x.q (omega arith) in
@@ -81,7 +83,13 @@ returns c = let e = c in
     let m = thousandths_text (thousandths x.p x.q) in
     let l4 = length-append (field x.p ++ field x.q ++ field x.n) (field x.k) in
     let l5 = length-append (field x.p ++ field x.q ++ field x.n ++ field x.k) m in
-    let end = t.put_thousandths-c.ensures in
-    let room : length m ≤ 20 = omega (arith, end.0.next, end.1) in
-    let four = put_join _ _ _ _ _ _ _ _ (omega (arith, s.requires, three, p, q, n, k)) a.put_three_fields-a.ensures f.put_field-b.ensures in
-    let five = put_join _ _ _ _ _ _ _ _ (omega (arith, s.requires, three, l4, p, q, n, k, room)) four end.0 in record { put = put_join _ _ _ _ _ _ _ _ (omega (arith, s.requires, three, l4, l5, p, q, n, k, room)) five e.put_bytes.ensures; upper_bound = omega (arith, a.put_three_fields-a.ensures.next, f.put_field-b.ensures.next, end.1, e.put_bytes.ensures.next, three, p, q, n, k) }
+    let a = c.put_three_fields-a.ensures in
+    let f = c.put_field-b.ensures in
+    let end = c.put_thousandths-c.ensures in
+    let room : length m ≤ 20 = omega (arith, end.put.next, end.upper_bound) in
+    let four = put_join _ _ _ _ _ _ _ _ (omega (arith, s, three, p, q, n, k)) a f in
+    let five = put_join _ _ _ _ _ _ _ _ (omega (arith, s, three, l4, p, q, n, k, room)) four end.put in
+    record {
+      put = put_join _ _ _ _ _ _ _ _ (omega (arith, s, three, l4, l5, p, q, n, k, room)) five c.put_bytes.ensures;
+      upper_bound = omega (arith, a.next, f.next, end.upper_bound, c.put_bytes.ensures.next, three, p, q, n, k);
+    }
