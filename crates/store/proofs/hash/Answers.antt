@@ -49,11 +49,10 @@ pub returns : goal.returns
 unfolding hash_of
 returns c =
     let l = c.loop-k in
-    let start = c in
-    let row = start.args.row.now in
+    let row = c.args.row.now in
     let all : l.k ≡ cell_bytes / 4 = omega arith in
     let last : c.read_u16-pattern.result * 256 + c.wide.result ≡ number (part row cell_bytes 3) =
-    ap₂ (λ (a b : ℕ). a * 256 + b) c.read_u16-pattern.ensures c.wide.ensures.0 ∙ sym (number_more row cell_bytes 2 (omega (arith, start.requires))) in
+    ap₂ (λ (a b : ℕ). a * 256 + b) c.read_u16-pattern.ensures c.wide.ensures.0 ∙ sym (number_more row cell_bytes 2 (omega (arith, c.requires))) in
     let is =
     c.hash_step-mixed.ensures.0 ∙ ap (λ (h : ℕ). hash_step h 0) (c.hash_step.ensures.0 ∙ ap₂ hash_step (l.invariant.1 ∙ ap (hash_words row) all) last) in
     (ap (λ (h : ℕ). h / 4194304) is, subst (λ (h : ℕ). h < hashes) (sym (ap (λ (h : ℕ). h / 4194304) is)) (hash_lt row))
