@@ -14,18 +14,6 @@ pub loop-k-init : goal.loop-k-init
 unfolding hash_words
 loop-k-init c = (omega arith, refl, omega arith)
 
-pub overflow_mul-k : goal.overflow_mul-k
-overflow_mul-k c = omega arith
-
-pub hash_step-h-requires : goal.hash_step-h-requires
-hash_step-h-requires c = c.loop-k.invariant.2
-
-pub overflow_add-k : goal.overflow_add-k
-overflow_add-k c = omega arith
-
-pub loop-k-smaller : goal.loop-k-smaller
-loop-k-smaller c = omega arith
-
 pub loop-k-preserved : goal.loop-k-preserved
 unfolding hash_words
 loop-k-preserved c =
@@ -35,15 +23,6 @@ loop-k-preserved c =
       c.hash_step-h.ensures.0 ∙ ap₂ hash_step l.invariant.1 c.read_u32.ensures ∙ ap (hash_words row) (sym (add-one l.k)),
       c.hash_step-h.ensures.1,
     )
-
-pub overflow_add-last : goal.overflow_add-last
-overflow_add-last c = omega (arith, c.wide.ensures.1, c.read_u16-pattern.type_inv)
-
-pub hash_step-requires : goal.hash_step-requires
-hash_step-requires c = c.loop-k.invariant.2
-
-pub hash_step-mixed-requires : goal.hash_step-mixed-requires
-hash_step-mixed-requires c = c.hash_step.ensures.1
 
 pub returns : goal.returns
 unfolding hash_of
