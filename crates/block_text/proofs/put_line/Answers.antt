@@ -50,11 +50,10 @@ put_byte-end-requires c =
 
 pub loop-i-preserved : goal.loop-i-preserved
 loop-i-preserved c =
-    let size : length c.args.bytes ≡ 16 = omega (arith, c.well_formed) in
-    (
+    let size : length c.args.bytes ≡ 16 = omega (arith, c.well_formed) in (
       omega (arith, c.loop-i-test.true),
       ahead-next c.put_byte-end.ensures c.put_byte-end.auto.out
-      (ahead_as (more c.args.refusal c.args.bytes size c.loop-i.i c.loop-i-test.true) c.loop-i.invariant.1)
+          (ahead_as (more c.args.refusal c.args.bytes size c.loop-i.i c.loop-i-test.true) c.loop-i.invariant.1),
     )
 
 pub put_last_byte-requires : goal.put_last_byte-requires

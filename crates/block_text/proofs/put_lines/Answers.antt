@@ -1,7 +1,7 @@
 -- A turn's calls make one write and its line.
 use borrow.Author.Rules.{elem_Fits}
 use mir.Syntax.{w8}
-use Rattle.block_text.proofs.Writing.{Made, writing_start, writing-next, writing-end, line-room}
+use Rattle.block_text.proofs.Writing.{writing_start, writing-next, writing-end, line-room}
 use Rattle.block_text.proofs.put_lines.Goals as goal
 
 pub loop-i-init : goal.loop-i-init

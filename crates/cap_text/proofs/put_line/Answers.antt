@@ -12,7 +12,6 @@ use Rattle.text.proofs.Decimal.{number-most, refused-most}
 use Rattle.text.proofs.Put.{put-inside}
 use Rattle.cap.specs.View.{answer_of}
 use Rattle.cap.specs.declared.Answer.{Answer}
-use borrow.Author.Rules.{rules}
 use Rattle.cap_text.proofs.put_line.Goals as goal
 
 -- the line of the answer that a match has told

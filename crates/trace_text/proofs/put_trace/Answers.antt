@@ -1,5 +1,5 @@
 -- A refusal is its line, a trace its table.
-use mathlib.Core.Path.{◌≡◌, sym, ap, ◌∙◌}
+use mathlib.Core.Path.{sym, ap, ◌∙◌}
 use native.Mathlib.Omega.{arith}
 use Rattle.model.specs.Text.{refused_line}
 use Rattle.words.proofs.Put.{put_as}

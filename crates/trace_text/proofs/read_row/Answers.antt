@@ -1,7 +1,6 @@
 -- `trace_text::read_row` meets its contract: a byte, the two bytes after it, and the byte after these.
 -- Assumes nothing.
 use Prim.Native.Nat.{◌+◌}
-use borrow.Author.Rules.{rules}
 use lib.ListN.{get_or}
 use Rattle.trace_text.proofs.read_row.Goals as goal
 

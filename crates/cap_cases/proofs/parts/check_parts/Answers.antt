@@ -3,7 +3,6 @@
 use mathlib.Core.List.{[]}
 use Prim.Native.Nat.{◌+◌, ◌*◌}
 use native.Mathlib.Omega.{arith}
-use borrow.Author.Rules.{rules}
 use lib.ListN.{length}
 use Rattle.cap.proofs.Answers.{feeds_parts, watching_from, watching_more, checked}
 use Rattle.cap_cases.specs.Kinds.{repeated}

@@ -1,8 +1,6 @@
 -- `cap_cases::parts::feed_times` meets its contract: each turn feeds the labels once more.
 -- Assumes nothing.
-use Prim.Native.Nat.{◌-◌}
-use borrow.Author.Rules.{rules}
-use Rattle.cap_cases.proofs.Times.{Through, through_start, through_goes, through_next, through_end}
+use Rattle.cap_cases.proofs.Times.{through_start, through_goes, through_next, through_end}
 use Rattle.cap_cases.proofs.parts.feed_times.Goals as goal
 
 pub loop-made-init : goal.loop-made-init

@@ -1,8 +1,7 @@
 -- `cap_cases::parts::feed_times` meets its contract: each turn feeds the labels once more.
 -- Assumes nothing.
 use Prim.Native.Nat.{◌-◌}
-use borrow.Author.Rules.{rules}
-use Rattle.cap_cases.proofs.Times.{Through, through_start, through_goes, through_next, through_end}
+use Rattle.cap_cases.proofs.Times.{Through}
 use Rattle.cap_cases.proofs.parts.feed_times.Given as goal
 
 abbrev pub invariant-loop-made : goal.invariant-loop-made
