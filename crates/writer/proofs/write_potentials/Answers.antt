@@ -46,7 +46,7 @@ loop-i-preserved c =
     let start = call in
     let more = call.loop-i-test.true in
     let distance : _ ≡ (link_in start.args.m.now l.i).distance =
-    to_z-of_z {w = w64} (record { sfits = told.type_inv.link.0.1 }) ∙ ap (λ (x : Link). x.distance) call.link_to-link.ensures in (
+    to_z-of_z {w = w64} (record { sfits = told.struct_told-1.given.0.1 }) ∙ ap (λ (x : Link). x.distance) call.link_to-link.ensures in (
       omega (arith, more),
       write.auto.out ∙ l.invariant.1,
       write.ensures
