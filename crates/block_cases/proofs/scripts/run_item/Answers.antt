@@ -37,10 +37,9 @@ write_to-written-requires c = c.loop-k.invariant.1.part.ready
 pub loop-k-preserved : goal.loop-k-preserved
 loop-k-preserved c =
     let item = c.args.item.now in
-    let next = standing item _ _ _ c.item_count-count.ensures.value c.item_total-total.ensures c.loop-k-test.true in
-    (
+    let next = standing item _ _ _ c.item_count-count.ensures.value c.item_total-total.ensures c.loop-k-test.true in (
       omega arith,
-      scripted_more item _ _ _ _ _ (next.read c.read_u64-byte.result c.read_u64-byte.ensures) c.loop-k.invariant.1 c.write_to-written.ensures
+      scripted_more item _ _ _ _ _ (next.read c.read_u64-byte.result c.read_u64-byte.ensures) c.loop-k.invariant.1 c.write_to-written.ensures,
     )
 
 pub returns : goal.returns
