@@ -12,7 +12,7 @@ by-test : (z m : ℤ) → SFits w64 z → SFits w64 m → (b : Bool) → le_z (t
 by-test z m f g b t = let read : le_z z m ≡ b = rw (to_z-of_z f, to_z-of_z g) at t in sym (ap (λ (b : Bool). cond b z m) read)
 
 pub returns-then-z-m : goal.returns-then-z-m
-returns-then-z-m c = let s = c in to_z-of_z s.ranges.z ∙ by-test s.args.z s.args.m s.ranges.z s.ranges.m _ c.if-z-m.true
+returns-then-z-m c = to_z-of_z c.ranges.z ∙ by-test c.args.z c.args.m c.ranges.z c.ranges.m _ c.if-z-m.true
 
 pub returns-else-z-m : goal.returns-else-z-m
-returns-else-z-m c = let s = c in to_z-of_z s.ranges.m ∙ by-test s.args.z s.args.m s.ranges.z s.ranges.m _ c.if-z-m.false
+returns-else-z-m c = to_z-of_z c.ranges.m ∙ by-test c.args.z c.args.m c.ranges.z c.ranges.m _ c.if-z-m.false

@@ -9,7 +9,6 @@ use Rattle.words.proofs.Put.{put_as}
 use Rattle.text.proofs.Decimal.{refused-most}
 use Rattle.refusals.specs.declared.Answer.{Answer}
 use Rattle.answer_text.specs.Finish.{Finishes}
-use borrow.Author.Rules.{rules}
 use Rattle.answer_text.proofs.finish.Goals as goal
 
 -- the answer that a match has told

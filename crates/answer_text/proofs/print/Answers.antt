@@ -1,7 +1,6 @@
 -- `answer_text::print` meets its contract: what is finished stands in the output.
 -- Assumes nothing.
 use Rattle.answer_text.proofs.Finished.{finished_inside}
-use borrow.Author.Rules.{rules}
 use Rattle.answer_text.proofs.print.Goals as goal
 
 pub slice_bounds-write_all-end : goal.slice_bounds-write_all-end

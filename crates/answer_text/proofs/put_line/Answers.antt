@@ -13,7 +13,6 @@ use Rattle.text.proofs.Put.{put-inside}
 use Rattle.refusals.specs.declared.Answer.{Answer}
 use Rattle.refusals.specs.Told.{result_by}
 use Rattle.answer_text.specs.Finish.{result_line}
-use borrow.Author.Rules.{rules}
 use Rattle.answer_text.proofs.put_line.Goals as goal
 
 -- the line of the answer that a match has told

@@ -1,16 +1,11 @@
 -- `arguments::number_in` meets its contract. The invariant of its loop: the first i bytes are digits, and value is theirs, capped. The measure is what is left of the bytes.
 -- Assumes nothing.
-use mathlib.Core.Path.{◌≡◌, refl, sym, ap, ◌∙◌}
+use mathlib.Core.Path.{◌≡◌}
 use mathlib.Core.Bool.{true}
-use mathlib.Core.List.{List}
-use Prim.Native.Nat.{ℕ, ◌-◌, ◌≤◌, ◌<◌}
-use native.Mathlib.Omega.{arith}
+use Prim.Native.Nat.{◌-◌, ◌≤◌}
 use lib.ListN.{length, take}
-use lib.Seq.{take_all}
 use Rattle.model.specs.Lists.{all}
-use Rattle.arguments.specs.Decimal.{is_digit, value_of, capped, number_of}
-use Rattle.arguments.specs.declared.Number.TheVariants.{Of}
-use Rattle.arguments.proofs.Decimal.{low_byte, high_byte, digits_more, capped-more, empty, whole}
+use Rattle.arguments.specs.Decimal.{is_digit, value_of, capped}
 use Rattle.arguments.proofs.number_in.Given as goal
 
 abbrev pub invariant-loop-i : goal.invariant-loop-i

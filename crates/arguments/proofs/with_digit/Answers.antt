@@ -3,7 +3,6 @@
 use mathlib.Core.Path.{sym}
 use Prim.Native.Nat.{◌+◌, ◌*◌, ◌≤◌, ◌<◌}
 use native.Mathlib.Omega.{arith}
-use borrow.Author.Rules.{rules}
 use Rattle.arguments.specs.Decimal.{largest}
 use Rattle.arguments.proofs.Decimal.{capped_small, capped_large}
 use Rattle.arguments.proofs.with_digit.Goals as goal

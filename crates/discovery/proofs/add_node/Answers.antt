@@ -1,6 +1,5 @@
 -- `discovery::add_node` meets its contract: the row is found or appended. Assumes nothing.
 use native.Mathlib.Omega.{arith}
-use borrow.Author.Rules.{rules}
 use Rattle.store.specs.declared.Found.TheVariants.{Full, At}
 use Rattle.discovery.proofs.Nodes.{adds_answer}
 use Rattle.discovery.proofs.add_node.Goals as goal

@@ -1,10 +1,9 @@
 -- `discovery::add_outcomes` meets its contract: the patterns' nodes join one after another. Assumes nothing.
-use mathlib.Core.Path.{◌≡◌, refl, subst, ◌∙◌}
-use Prim.Native.Nat.{ℕ, ◌+◌, ◌-◌, ◌≤◌}
-use native.Mathlib.Omega.{arith}
+use mathlib.Core.Path.{◌≡◌}
+use Prim.Native.Nat.{◌-◌, ◌≤◌}
 use lib.ListN.{length}
 use Rattle.model.specs.Limits.{max_nodes}
-use Rattle.discovery.proofs.Growing.{Added, added_none, added_more, added_many}
+use Rattle.discovery.proofs.Growing.{Added}
 use Rattle.discovery.proofs.add_outcomes.Given as goal
 
 abbrev pub invariant-loop-k : goal.invariant-loop-k

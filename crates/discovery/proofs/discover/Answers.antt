@@ -1,7 +1,6 @@
 -- `discovery::discover` meets its contract. Assumes nothing.
 use mathlib.Core.Path.{ap, ◌∙◌}
 use mathlib.Core.List.{[]}
-use borrow.Author.Rules.{rules}
 use Rattle.words.proofs.Free.{only_trans}
 use lib.ListN.{length}
 use Rattle.node.specs.declared.Node.{Node}
@@ -23,7 +22,8 @@ explore_all-n-requires c =
     )
 
 pub returns-then-n-gt-MAX_ROWS : goal.returns-then-n-gt-MAX_ROWS
-returns-then-n-gt-MAX_ROWS c = let a = c.args in
+returns-then-n-gt-MAX_ROWS c =
+    let a = c.args in
     let begin =
     begun a.rules c.start-start.result c.start-start.ensures c.clear_index.new.m c.add_node-first.new.m c.add_node-first.result
     c.clear_index.ensures.index c.add_node-first.ensures in record {
@@ -33,7 +33,8 @@ returns-then-n-gt-MAX_ROWS c = let a = c.args in
     }
 
 pub returns : goal.returns
-returns c = let a = c.args in
+returns c =
+    let a = c.args in
     let begin =
     begun a.rules c.start-start.result c.start-start.ensures c.clear_index.new.m c.add_node-first.new.m c.add_node-first.result
     c.clear_index.ensures.index c.add_node-first.ensures in record {

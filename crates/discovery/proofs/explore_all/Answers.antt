@@ -1,22 +1,14 @@
 -- `discovery::explore_all` meets its contract: the rows one after another. Assumes nothing.
-use mathlib.Core.Path.{◌≡◌, refl, sym, ap, subst, ◌∙◌}
+use mathlib.Core.Path.{refl, sym, ap, subst, ◌∙◌}
 use mathlib.Core.List.{List}
-use Prim.Native.Nat.{ℕ, suc, ◌-◌, ◌*◌, ◌≤◌}
+use Prim.Native.Nat.{ℕ, suc}
 use native.Mathlib.Numerals.{add-one}
 use native.Mathlib.Omega.{arith}
-use lib.ListN.{length}
-use borrow.Author.Rules.{rules}
 use Rattle.words.proofs.Free.{only_refl, only_trans}
 use Rattle.model.specs.Discovery.{found}
 use Rattle.model.specs.Graph as model
-use Rattle.model.specs.Limits.{max_nodes}
-use Rattle.model.specs.Plan.{Plan}
 use Rattle.theory.proofs.Nodes.{explored}
-use Rattle.words.proofs.Memory.{part_length}
 use Rattle.policy.specs.View.{tasks_in}
-use Rattle.graph.specs.Outcomes.{NotesFree}
-use Rattle.graph.specs.View.{Planned}
-use Rattle.store.specs.Store.{row_bytes}
 use Rattle.discovery.specs.Discovery.{node_in, Known}
 use Rattle.discovery.proofs.Growing.{known-none}
 use Rattle.discovery.proofs.Whole.{row-cells, row-state, row-taken, next_turn, whole-many, whole-end}
@@ -36,21 +28,9 @@ loop-k-init c =
       only_refl,
     )
 
-pub row-row-requires : goal.row-row-requires
-row-row-requires c =
-    let b = c.requires.1 in
-    let l = c.loop-k in
-    (omega arith, ((l.invariant.4 b.plan b.planned).held l.invariant.1).0.index.room)
-
-pub node_of-node-requires : goal.node_of-node-requires
-node_of-node-requires c =
-    let b = c.requires.1 in
-    let l = c.loop-k in
-    ap length c.row-row.ensures
-    ∙ part_length l.m (row_bytes * l.k) row_bytes (omega (arith, ((l.invariant.4 b.plan b.planned).held l.invariant.1).0.index.room))
-
 pub explore_node-known-requires : goal.explore_node-known-requires
-explore_node-known-requires c = let l = c.loop-k in
+explore_node-known-requires c =
+    let l = c.loop-k in
     let a = c.args in
     let b = c.requires.1 in
     let named = c.node_of-node.ensures ∙ ap node_in c.row-row.ensures in
@@ -64,20 +44,18 @@ explore_node-known-requires c = let l = c.loop-k in
       holding = (((l.invariant.4 b.plan b.planned).held l.invariant.1).0, omega (arith, l.invariant.2, c.requires.3));
     }
 
-pub shape_of-m-then-known-gt-MAX_ROWS : goal.shape_of-m-then-known-gt-MAX_ROWS
-shape_of-m-then-known-gt-MAX_ROWS c =
-    c.explore_node-known.auto.m ∙ c.loop-k.invariant.3
-
 pub returns-then-known-gt-MAX_ROWS : goal.returns-then-known-gt-MAX_ROWS
-returns-then-known-gt-MAX_ROWS c = let l = c.loop-k in
+returns-then-known-gt-MAX_ROWS c =
+    let l = c.loop-k in
     let a = c.args in
     let after = c.explore_node-known.new.m in
     let then =
     next_turn a.rules c.requires.0 a.next.now a.m.now l.m l.known l.k l.invariant.1 (omega arith) l.invariant.4
-    c.node_of-node.result (c.node_of-node.ensures ∙ ap node_in c.row-row.ensures) after c.explore_node-known.result c.explore_node-known.ensures.explored in record { known = λ P p. whole-many P (tasks_in a.rules) a.m.now after c.explore_node-known.result (suc l.k) (omega arith) (then P p) c.if-known-gt-MAX_ROWS.true; notes_free = only_trans l.invariant.5 c.explore_node-known.ensures.notes_free }
-
-pub loop-k-smaller : goal.loop-k-smaller
-loop-k-smaller c = omega arith
+    c.node_of-node.result (c.node_of-node.ensures ∙ ap node_in c.row-row.ensures) after c.explore_node-known.result c.explore_node-known.ensures.explored in record {
+      known = λ P p.
+          whole-many P (tasks_in a.rules) a.m.now after c.explore_node-known.result (suc l.k) (omega arith) (then P p) c.if-known-gt-MAX_ROWS.true;
+      notes_free = only_trans l.invariant.5 c.explore_node-known.ensures.notes_free;
+    }
 
 pub loop-k-preserved : goal.loop-k-preserved
 loop-k-preserved c =
@@ -95,9 +73,10 @@ loop-k-preserved c =
       only_trans l.invariant.5 c.explore_node-known.ensures.notes_free,
     )
 
-pub shape_of-m : goal.shape_of-m
-shape_of-m c = c.loop-k.invariant.3
-
 pub returns : goal.returns
-returns c = let a = c.args in
-    let l = c.loop-k in record { known = λ P p. whole-end P (tasks_in a.rules) a.m.now l.m l.known l.k l.invariant.0 (l.invariant.4 P p) l.invariant.1 (omega arith); notes_free = l.invariant.5 }
+returns c =
+    let a = c.args in
+    let l = c.loop-k in record {
+      known = λ P p. whole-end P (tasks_in a.rules) a.m.now l.m l.known l.k l.invariant.0 (l.invariant.4 P p) l.invariant.1 (omega arith);
+      notes_free = l.invariant.5;
+    }

@@ -1,5 +1,4 @@
 -- `discovery::explore_label` meets its contract. Assumes nothing.
-use borrow.Author.Rules.{rules}
 use Rattle.policy.specs.View.{tasks_in}
 use Rattle.graph.specs.Outcomes.{pattern_count}
 use Rattle.graph.specs.Label.{order_in}
@@ -8,7 +7,8 @@ use Rattle.discovery.proofs.Labels.{label-explored}
 use Rattle.discovery.proofs.explore_label.Goals as goal
 
 pub returns : goal.returns
-returns c = let a = c.args in
+returns c =
+    let a = c.args in
     let noted = c.reach-noted.ensures in
     let d = c.reach-noted.result in
     let after = c.reach-noted.new.notes in record {

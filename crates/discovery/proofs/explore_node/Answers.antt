@@ -1,35 +1,17 @@
 -- `discovery::explore_node` meets its contract: the labels one after another. Assumes nothing.
-use mathlib.Core.Path.{◌≡◌, refl, subst, ◌∙◌}
-use Prim.Native.Nat.{ℕ, ◌+◌, ◌-◌, ◌^◌, ◌≤◌}
+use mathlib.Core.Path.{◌≡◌, subst, ◌∙◌}
+use Prim.Native.Nat.{ℕ, ◌+◌, ◌^◌}
 use native.Mathlib.Omega.{arith}
-use lib.ListN.{length}
-use borrow.Author.Rules.{rules}
-use Rattle.words.proofs.Free.{only_refl, only_trans}
-use Rattle.model.specs.Limits.{max_nodes}
+use Rattle.words.proofs.Free.{only_trans}
 use Rattle.policy.specs.View.{tasks_in}
-use Rattle.graph.specs.Outcomes.{NotesFree}
 use Rattle.graph.specs.View.{node_of}
 use Rattle.discovery.specs.Discovery.{Explored, edges_below}
-use Rattle.discovery.proofs.Growing.{explored-none, explored-held, label-more, label-many, labels_shifted}
+use Rattle.discovery.proofs.Growing.{explored-held, label-more, label-many, labels_shifted}
 use Rattle.discovery.proofs.explore_node.Goals as goal
 
-pub overflow_cast-labels : goal.overflow_cast-labels
-overflow_cast-labels c =
-    let rules = c.requires.ruled.0 in
-    record { fits = omega (arith, rules.size, rules.tasks.count) }
-
-pub overflow_shl-labels : goal.overflow_shl-labels
-overflow_shl-labels c =
-    let rules = c.requires.ruled.0 in
-    omega (arith, rules.size, rules.tasks.count)
-
-pub loop-label-init : goal.loop-label-init
-loop-label-init c =
-    let a = c.args in
-    (omega arith, c.requires.holding.0.index.few, refl, refl, explored-none a.rules a.m.now a.n c.requires.holding.0, only_refl)
-
 pub follow_label-known-requires : goal.follow_label-known-requires
-follow_label-known-requires c = let a = c.args in
+follow_label-known-requires c =
+    let a = c.args in
     let l = c.loop-label in
     let es = edges_below a.next.now (node_of (tasks_in a.rules) a.node) l.label in record {
       ruled = c.requires.ruled;
@@ -39,12 +21,9 @@ follow_label-known-requires c = let a = c.args in
       );
     }
 
-pub shape_of-m-then-known-gt-MAX_ROWS : goal.shape_of-m-then-known-gt-MAX_ROWS
-shape_of-m-then-known-gt-MAX_ROWS c =
-    c.follow_label-known.auto.m ∙ c.loop-label.invariant.3
-
 pub returns-then-known-gt-MAX_ROWS : goal.returns-then-known-gt-MAX_ROWS
-returns-then-known-gt-MAX_ROWS c = let l = c.loop-label in
+returns-then-known-gt-MAX_ROWS c =
+    let l = c.loop-label in
     let a = c.args in
     let u = node_of (tasks_in a.rules) a.node in
     let after = c.follow_label-known.new.m in
@@ -54,9 +33,6 @@ returns-then-known-gt-MAX_ROWS c = let l = c.loop-label in
           (label-more a.rules a.next.now u a.m.now a.n l.label l.m l.known l.invariant.1 l.invariant.4 after c.follow_label-known.result c.follow_label-known.ensures.explored);
       notes_free = only_trans l.invariant.5 c.follow_label-known.ensures.notes_free;
     }
-
-pub loop-label-smaller : goal.loop-label-smaller
-loop-label-smaller c = omega arith
 
 pub loop-label-preserved : goal.loop-label-preserved
 loop-label-preserved c =
@@ -72,11 +48,9 @@ loop-label-preserved c =
       only_trans l.invariant.5 c.follow_label-known.ensures.notes_free,
     )
 
-pub shape_of-m : goal.shape_of-m
-shape_of-m c = c.loop-label.invariant.3
-
 pub returns : goal.returns
-returns c = let a = c.args in
+returns c =
+    let a = c.args in
     let l = c.loop-label in
     let shifted = labels_shifted a.rules.count (omega (arith, c.requires.ruled.0.size, c.requires.ruled.0.tasks.count)) in
     let all : l.label ≡ 2 ^ a.rules.count = omega (arith, shifted) in record {

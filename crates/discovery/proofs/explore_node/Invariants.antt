@@ -1,16 +1,12 @@
 -- `discovery::explore_node` meets its contract: the labels one after another. Assumes nothing.
-use mathlib.Core.Path.{◌≡◌, refl, subst, ◌∙◌}
-use Prim.Native.Nat.{ℕ, ◌+◌, ◌-◌, ◌^◌, ◌≤◌}
-use native.Mathlib.Omega.{arith}
+use mathlib.Core.Path.{◌≡◌}
+use Prim.Native.Nat.{◌-◌, ◌≤◌}
 use lib.ListN.{length}
-use borrow.Author.Rules.{rules}
-use Rattle.words.proofs.Free.{only_refl, only_trans}
 use Rattle.model.specs.Limits.{max_nodes}
 use Rattle.policy.specs.View.{tasks_in}
 use Rattle.graph.specs.Outcomes.{NotesFree}
 use Rattle.graph.specs.View.{node_of}
 use Rattle.discovery.specs.Discovery.{Explored, edges_below}
-use Rattle.discovery.proofs.Growing.{explored-none, explored-held, label-more, label-many, labels_shifted}
 use Rattle.discovery.proofs.explore_node.Given as goal
 
 abbrev pub invariant-loop-label : goal.invariant-loop-label

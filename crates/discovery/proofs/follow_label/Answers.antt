@@ -4,7 +4,6 @@ use mathlib.Core.List.{[]}
 use mathlib.Core.Option.{some}
 use Prim.Native.Nat.{◌-◌, ◌<◌}
 use native.Mathlib.Omega.{arith}
-use borrow.Author.Rules.{rules}
 use Rattle.words.proofs.Free.{only_refl}
 use Rattle.model.specs.Graph.{edges_to}
 use Rattle.plan.specs.View.{next_of}
@@ -16,7 +15,8 @@ use Rattle.discovery.proofs.Growing.{explored-none, explored-same}
 use Rattle.discovery.proofs.follow_label.Goals as goal
 
 pub returns-then-to-eq0 : goal.returns-then-to-eq0
-returns-then-to-eq0 c = let a = c.args in
+returns-then-to-eq0 c =
+    let a = c.args in
     let u = node_of (tasks_in a.rules) a.from.node in record {
       explored = explored-same a.rules (λ P. []) (edges_by a.next.now u a.from.label) a.m.now a.n a.m.now a.n
           (λ P. ap (edges_to P u a.from.label) (ap next_of (sym c.if-to-eq0.true) ∙ c.next_state-to.ensures))
@@ -25,7 +25,8 @@ returns-then-to-eq0 c = let a = c.args in
     }
 
 pub returns : goal.returns
-returns c = let a = c.args in
+returns c =
+    let a = c.args in
     let u = node_of (tasks_in a.rules) a.from.node in
     let to = c.next_state-to.result in
     let admitted : 0 < to = omega (arith, c.if-to-eq0.false) in record {

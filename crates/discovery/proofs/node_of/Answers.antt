@@ -2,7 +2,6 @@
 use mathlib.Core.Path.{◌∙◌}
 use native.Mathlib.Omega.{arith}
 use lib.ListN.{get_or}
-use borrow.Author.Rules.{rules}
 use Rattle.model.specs.Bytes.{part}
 use Rattle.words.proofs.Memory.{overwrite-all, part_length}
 use Rattle.policy.specs.View.{cell_count}

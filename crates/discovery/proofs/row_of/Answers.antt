@@ -3,7 +3,6 @@ use mathlib.Core.Path.{refl, ap, ◌∙◌}
 use mathlib.Core.List.{List}
 use Prim.Native.Nat.{ℕ}
 use lib.ListN.{set}
-use borrow.Author.Rules.{rules}
 use Rattle.model.specs.Bytes.{bytes, overwrite}
 use Rattle.discovery.specs.Discovery.{pattern_bytes, taken_at, state_at}
 use Rattle.discovery.proofs.Rows.{row_written}

@@ -10,7 +10,6 @@ use lib.Dec.{ltb}
 use mir.Facts.{Fits-le}
 use mir.Syntax.{w32, w64}
 use mir.Val.{Fits}
-use borrow.Author.Rules.{rules}
 use borrow.Author.Tests.{lt-ltb, le-ltb}
 use Rattle.model.specs.Thousandths.{thousandths, Printed}
 use Rattle.theory.proofs.Thousandths.{one-test, thousandths_printed}

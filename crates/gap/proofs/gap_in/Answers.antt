@@ -23,10 +23,8 @@ returns-then-labels-set c =
 -- a set of a plan's tasks is a byte
 pub overflow_cast-set : goal.overflow_cast-set
 overflow_cast-set c =
-    let l = c in
-    let s = l in
-    let few : 2 ^ s.args.plan.count ≤ 2 ^ max_tasks = pow_mono s.requires.0.fits in
-    omega (arith, l.labels.ensures, c.if-labels-set.false)
+    let few : 2 ^ c.args.plan.count ≤ 2 ^ max_tasks = pow_mono c.requires.0.fits in
+    omega (arith, c.labels.ensures, c.if-labels-set.false)
 
 pub returns : goal.returns
 returns c =

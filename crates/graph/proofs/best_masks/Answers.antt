@@ -20,9 +20,8 @@ overflow_shl-result c = omega arith
 
 pub returns : goal.returns
 returns c =
-    let start = c in
-    let tasks = start.args.tasks in
-    let x = masks_in start.args.notes.now in
+    let tasks = c.args.tasks in
+    let x = masks_in c.args.notes.now in
     let is : c.wide.result * word_base + c.wide-2.result ≡ x = ap₂ (λ (a b : ℕ). a * word_base + b) c.wide.ensures.0 c.wide-2.ensures.0 in
-    let low : x * field_base ^ (max_tasks - tasks) < field_base ^ max_tasks = shifted_lt x tasks max_tasks start.requires.3 start.requires.2 in
+    let low : x * field_base ^ (max_tasks - tasks) < field_base ^ max_tasks = shifted_lt x tasks max_tasks c.requires.3 c.requires.2 in
     rw (is, base_shift (max_tasks - tasks)) (mod-eq_of_lt low)

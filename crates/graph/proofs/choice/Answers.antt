@@ -9,9 +9,8 @@ use Rattle.graph.proofs.choice.Goals as goal
 
 pub returns : goal.returns
 returns c =
-    let start = c in
-    let a = start.args in (
-      c.choice_from.ensures.0 ∙ choice_start a.release a.taken (unpacked a.masks) start.requires.0 (fields-length max_tasks a.masks),
+    let a = c.args in (
+      c.choice_from.ensures.0 ∙ choice_start a.release a.taken (unpacked a.masks) c.requires.0 (fields-length max_tasks a.masks),
       c.choice_from.ensures.1,
       c.choice_from.ensures.2,
     )

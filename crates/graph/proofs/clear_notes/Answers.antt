@@ -34,6 +34,5 @@ loop-i-preserved c =
 pub returns : goal.returns
 returns c =
     let l = c.loop-i in
-    let start = c in
     let e : l.i ≡ order_at = omega arith in
-    notes-cleared start.args.notes.now l.notes start.requires l.invariant.1 (λ k h. l.invariant.2 k (omega arith)) (λ k h. l.invariant.3 k (omega arith))
+    notes-cleared c.args.notes.now l.notes c.requires l.invariant.1 (λ k h. l.invariant.2 k (omega arith)) (λ k h. l.invariant.3 k (omega arith))

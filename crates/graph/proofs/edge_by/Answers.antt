@@ -19,55 +19,43 @@ use Rattle.graph.proofs.edge_by.Goals as goal
 
 pub returns-then-entry-eq0 : goal.returns-then-entry-eq0
 returns-then-entry-eq0 c =
-    let read = c in
-    let start = read in
-    let a = start.args in
-    stepped-none a.next.now a.rules a.node a.label (unpacked a.masks) c.no_edge.result c.no_edge.ensures start.requires.1 start.requires.3 start.requires.4
-    (edge_none a.rules start.requires.0.size a.next.now start.requires.2 a.node a.label (unpacked a.masks) (ap next_of (sym c.if-entry-eq0.true) ∙ read.next_state-entry.ensures))
+    let a = c.args in
+    stepped-none a.next.now a.rules a.node a.label (unpacked a.masks) c.no_edge.result c.no_edge.ensures c.requires.1 c.requires.3 c.requires.4
+    (edge_none a.rules c.requires.0.size a.next.now c.requires.2 a.node a.label (unpacked a.masks) (ap next_of (sym c.if-entry-eq0.true) ∙ c.next_state-entry.ensures))
 
 pub returns-in_default : goal.returns-in_default
 returns-in_default c =
-    let chosen = c in
-    let left = chosen in
-    let read = left in
-    let start = read in
-    let a = start.args in
-    let to = read.next_state-entry.result in
-    let admitted : 0 < to = omega (arith, left.if-entry-eq0.false) in
-    stepped-none a.next.now a.rules a.node a.label (unpacked a.masks) c.no_edge-in_default.result c.no_edge-in_default.ensures start.requires.1 start.requires.3 start.requires.4
-    (edge-some a.rules start.requires.0.size a.next.now start.requires.2 a.node a.label (unpacked a.masks) (to - 1) (sym (next-some to admitted) ∙ read.next_state-entry.ensures)
+    let a = c.args in
+    let to = c.next_state-entry.result in
+    let admitted : 0 < to = omega (arith, c.if-entry-eq0.false) in
+    stepped-none a.next.now a.rules a.node a.label (unpacked a.masks) c.no_edge-in_default.result c.no_edge-in_default.ensures c.requires.1 c.requires.3 c.requires.4
+    (edge-some a.rules c.requires.0.size a.next.now c.requires.2 a.node a.label (unpacked a.masks) (to - 1) (sym (next-some to admitted) ∙ c.next_state-entry.ensures)
     (slot (plan_by a.rules a.next.now max_states) (jobs_of (tasks_in a.rules) a.node.cells) a.label) refl
-    none (ap led_of (sym c.in_default.is) ∙ chosen.choice_at-found.ensures.0))
+    none (ap led_of (sym c.in_default.is) ∙ c.choice_at-found.ensures.0))
 
 pub returns : goal.returns
 returns c =
-    let slotted = c in
-    let matched = slotted in
-    let chosen = matched in
-    let left = chosen in
-    let read = left in
-    let start = read in
-    let a = start.args in
-    let to = read.next_state-entry.result in
-    let admitted : 0 < to = omega (arith, left.if-entry-eq0.false) in
-    let next = sym (next-some to admitted) ∙ read.next_state-entry.ensures in
-    let is = matched.in-Some.is in
+    let a = c.args in
+    let to = c.next_state-entry.result in
+    let admitted : 0 < to = omega (arith, c.if-entry-eq0.false) in
+    let next = sym (next-some to admitted) ∙ c.next_state-entry.ensures in
+    let is = c.in-Some.is in
     record {
       edge =
           sym
-          (edge-some a.rules start.requires.0.size a.next.now start.requires.2 a.node a.label (unpacked a.masks) (to - 1) next
-          (done_of (tasks_in a.rules) slotted.slot-done.result) (slotted.slot-done.ensures.rule (plan_by a.rules a.next.now max_states) refl refl)
-          (some (record { pattern = matched.in-Some.pattern; gain = matched.in-Some.gain })) (ap led_of (sym is) ∙ chosen.choice_at-found.ensures.0));
+          (edge-some a.rules c.requires.0.size a.next.now c.requires.2 a.node a.label (unpacked a.masks) (to - 1) next
+          (done_of (tasks_in a.rules) c.slot-done.result) (c.slot-done.ensures.rule (plan_by a.rules a.next.now max_states) refl refl)
+          (some (record { pattern = c.in-Some.pattern; gain = c.in-Some.gain })) (ap led_of (sym is) ∙ c.choice_at-found.ensures.0));
       absent = λ f. absurd (true≢false f);
-      cells = slotted.slot-done.ensures.cells;
-      state = start.requires.2.states.to a.node.state a.label (to - 1) (sym next);
-      taken = omega (arith, ap lead_pattern is, chosen.choice_at-found.ensures.2);
+      cells = c.slot-done.ensures.cells;
+      state = c.requires.2.states.to a.node.state a.label (to - 1) (sym next);
+      taken = omega (arith, ap lead_pattern is, c.choice_at-found.ensures.2);
       kept =
           omega (
             arith,
-            ap (λ (d : Done). d.gain) (slotted.slot-done.ensures.rule (plan_by a.rules a.next.now max_states) refl refl),
+            ap (λ (d : Done). d.gain) (c.slot-done.ensures.rule (plan_by a.rules a.next.now max_states) refl refl),
             gain-most (plan_by a.rules a.next.now max_states) (jobs_of (tasks_in a.rules) a.node.cells) a.label max_value
-                (λ i h. (start.requires.0.tasks.each i h).value),
+                (λ i h. (c.requires.0.tasks.each i h).value),
           );
-      ideal = omega (arith, ap lead_gain is, chosen.choice_at-found.ensures.1);
+      ideal = omega (arith, ap lead_gain is, c.choice_at-found.ensures.1);
     }

@@ -10,19 +10,17 @@ use Rattle.graph.proofs.note_choices.Goals as goal
 
 pub note_task-requires : goal.note_task-requires
 note_task-requires c =
-    let start = c in
-    let r = start.args.release in
+    let r = c.args.release in
     let o = c.offers_of-offers in (
       c.table-table.ensures,
-      offers-sound r start.requires.0 start.args.wanted o.result o.ensures,
-      record { task = omega arith; pattern = start.requires.1; gain = omega arith; masks = omega arith },
-      start.requires.2,
+      offers-sound r c.requires.0 c.args.wanted o.result o.ensures,
+      record { task = omega arith; pattern = c.requires.1; gain = omega arith; masks = omega arith },
+      c.requires.2,
     )
 
 pub returns : goal.returns
 returns c =
-    let start = c in
-    let r = start.args.release in
+    let r = c.args.release in
     let o = c.offers_of-offers in
-    subst₂ (λ (w : ℕ) (os : List Outcome). Noting w os lists_at start.args.notes.now 0 c.note_task.new.notes c.note_task.result)
-    o.ensures.wanted (offered-all r start.requires.0 start.args.wanted o.result o.ensures start.args.taken) c.note_task.ensures
+    subst₂ (λ (w : ℕ) (os : List Outcome). Noting w os lists_at c.args.notes.now 0 c.note_task.new.notes c.note_task.result)
+    o.ensures.wanted (offered-all r c.requires.0 c.args.wanted o.result o.ensures c.args.taken) c.note_task.ensures

@@ -24,18 +24,16 @@ loop-i-init c = (omega arith, refl, refl, refl, λ k h. absurd (omega arith))
 
 pub span_of-span-requires : goal.span_of-span-requires
 span_of-span-requires c =
-    let start = c in
     let l = c.loop-i in
-    subst InRange (sym c.task_at-task.ensures) (start.requires.tasks.each l.i (omega (arith, start.requires.size)))
+    subst InRange (sym c.task_at-task.ensures) (c.requires.tasks.each l.i (omega (arith, c.requires.size)))
 
 pub loop-i-preserved : goal.loop-i-preserved
 loop-i-preserved c =
     let l = c.loop-i in
-    let start = c in
-    let release = start.args.release in
+    let release = c.args.release in
     let task = c.task_at-task in
     let span = c.span_of-span in
-    let low : l.i < max_tasks = omega (arith, start.requires.size, start.requires.tasks.count) in
+    let low : l.i < max_tasks = omega (arith, c.requires.size, c.requires.tasks.count) in
     let e = c.is_released.ensures in
     let lock = bool_byte task.result.locked in (
       omega arith,

@@ -12,14 +12,13 @@ pub returns : goal.returns
 returns c =
     let noted = c.note_choices-count in
     let cleared = c.clear_notes in
-    let start = c in
-    let a = start.args in
+    let a = c.args in
     let after = noted.new.notes in
     let notes : notes_in after noted.result ≡ noted_of (tasks_in a.rules) a.label a.node.taken a.wanted nothing_noted =
     noted.ensures.notes ∙ ap (λ (n : Notes). foldl (note a.wanted) n (outcomes (tasks_in a.rules) a.label a.node.taken)) cleared.ensures.notes in
     record {
       slot = c.slot-done.ensures;
       notes = notes;
-      readable = label-readable (tasks_in a.rules) start.requires.0.tasks a.label a.node.taken a.wanted start.requires.2 after noted.result notes noted.ensures.room;
+      readable = label-readable (tasks_in a.rules) c.requires.0.tasks a.label a.node.taken a.wanted c.requires.2 after noted.result notes noted.ensures.room;
       only = only_trans cleared.ensures.only (keeps_free noted.ensures.keeps);
     }

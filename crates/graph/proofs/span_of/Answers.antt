@@ -19,8 +19,7 @@ returns-then-not-released c =
 
 pub returns-then-task : goal.returns-then-task
 returns-then-task c =
-    let start = c in
-    let t = task_view start.args.task in
+    let t = task_view c.args.task in
     let r = c.if-not-released.false in
     let l = c.if-task.true in (
       c.runs_of.ensures.0 ∙ sym (ap (span_start t) r ∙ ap (λ (b : Bool). cond b (2 ^ t.work - 1) (group_start t.work)) l),
@@ -32,8 +31,7 @@ returns-then-task c =
 
 pub returns : goal.returns
 returns c =
-    let start = c in
-    let t = task_view start.args.task in
+    let t = task_view c.args.task in
     let r = c.if-not-released.false in
     let l = c.if-task.false in (
       c.group_start-at.ensures ∙ sym (ap (span_start t) r ∙ ap (λ (b : Bool). cond b (2 ^ t.work - 1) (group_start t.work)) l),

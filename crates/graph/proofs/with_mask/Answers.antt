@@ -20,15 +20,13 @@ more chosen m gain = record { task = chosen.task + 1; pattern = bit_or chosen.pa
 
 pub overflow_add-gain : goal.overflow_add-gain
 overflow_add-gain c =
-    let start = c in
-    omega (arith, start.requires.0.gain, start.requires.0.task, c.worth.ensures, worth-most (eqb start.args.m 0) start.args.task.value)
+    omega (arith, c.requires.0.gain, c.requires.0.task, c.worth.ensures, worth-most (eqb c.args.m 0) c.args.task.value)
 
 pub returns : goal.returns
 unfolding more
 returns c =
-    let start = c in
-    let a = start.args in
-    let p = start.requires in (
+    let a = c.args in
+    let p = c.requires in (
       ap (more a.chosen a.m) c.worth.ensures,
       record {
         task = omega arith;

@@ -10,12 +10,11 @@ use Rattle.links.proofs.link_to.Goals as goal
 
 pub returns : goal.returns
 returns c =
-    let w = c in
-    let m = w.args.m.now in
-    let v = w.args.v in
+    let m = c.args.m.now in
+    let v = c.args.v in
     λ i. record {
-      distance = (to_z-of_z {w = w64} (record { sfits = w.read_i64-distance.type_inv }) ∙ w.read_i64-distance.ensures) i;
-      parent = w.read_u16-parent.ensures i;
+      distance = (to_z-of_z {w = w64} (record { sfits = c.read_i64-distance.type_inv }) ∙ c.read_i64-distance.ensures) i;
+      parent = c.read_u16-parent.ensures i;
       label = get_or m (link_place v + 10) 0;
       mark = get_or m (link_place v + 11) 0;
     }

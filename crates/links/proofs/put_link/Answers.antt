@@ -7,17 +7,11 @@ use mir.Facts.{to_z-of_z}
 use Prim.Native.Nat.{◌+◌}
 use native.Mathlib.Omega.{arith}
 use borrow.Author.Rules.{rules}
-use lib.ListN.{set, length-set}
+use lib.ListN.{set}
 use Rattle.model.specs.Bytes.{bytes, complement, overwrite}
 use Rattle.links.specs.Links.{link_place, Puts}
 use Rattle.links.proofs.Written.{puts, link-written}
 use Rattle.links.proofs.put_link.Goals as goal
-
-pub bounds-m-at-2 : goal.bounds-m-at-2
-bounds-m-at-2 c = simp length-set (omega (arith, c.requires, c.write_u16.auto.s, c.write_i64.auto.s))
-
-pub shape_of-m : goal.shape_of-m
-shape_of-m c = simp length-set (c.write_u16.auto.s ∙ c.write_i64.auto.s)
 
 pub returns : goal.returns
 returns c =

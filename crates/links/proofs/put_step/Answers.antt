@@ -12,10 +12,9 @@ use Rattle.links.proofs.put_step.Goals as goal
 
 pub returns : goal.returns
 returns c =
-    let a = c in
-    let two = bytes-length 2 a.args.step.node in
-    subst (PutsStep a.args.i a.args.step a.args.m.now)
+    let two = bytes-length 2 c.args.step.node in
+    subst (PutsStep c.args.i c.args.step c.args.m.now)
     (sym
-    (ap (λ x. set x (step_place a.args.i + 2) a.args.step.label) c.write_u16.ensures
-    ∙ overwrite-more a.args.m.now (step_place a.args.i) _ 2 a.args.step.label two (omega (arith, a.requires))))
-    (puts_step a.args.step (omega (arith, a.requires)) a.args.m.now a.args.i a.requires.1 a.requires.0)
+    (ap (λ x. set x (step_place c.args.i + 2) c.args.step.label) c.write_u16.ensures
+    ∙ overwrite-more c.args.m.now (step_place c.args.i) _ 2 c.args.step.label two (omega (arith, c.requires))))
+    (puts_step c.args.step (omega (arith, c.requires)) c.args.m.now c.args.i c.requires.1 c.requires.0)

@@ -7,7 +7,6 @@ use Rattle.links.proofs.step_at.Goals as goal
 
 pub returns : goal.returns
 returns c =
-    let w = c in
-    let m = w.args.m.now in
-    let i = w.args.i in
-    λ j. record { node = w.read_u16-node.ensures j; label = get_or m (step_place i + 2) 0 }
+    let m = c.args.m.now in
+    let i = c.args.i in
+    λ j. record { node = c.read_u16-node.ensures j; label = get_or m (step_place i + 2) 0 }

@@ -1,18 +1,13 @@
 -- `mask_text::list_group` meets its contract: the masks below m that have c ones are listed.
 -- Assumes nothing.
-use mathlib.Core.Path.{◌≡◌, refl, ap, ◌∙◌}
-use mathlib.Core.List.{[], ◌∷◌}
-use borrow.Author.Rules.{rules}
-use Prim.Native.Nat.{ℕ, ◌+◌, ◌-◌, ◌≤◌}
-use native.Mathlib.Omega.{arith}
+use mathlib.Core.Path.{◌≡◌}
+use Prim.Native.Nat.{◌-◌, ◌≤◌}
 use lib.Dec.{eqb}
-use lib.ListN.{length, length-append}
+use lib.ListN.{length}
 use Rattle.model.specs.Bytes.{Put}
 use Rattle.model.specs.Limits.{max_window}
 use Rattle.model.specs.Lists.{keep, up_from, ones}
-use Rattle.model.specs.Masks.{mask_count, group}
-use Rattle.words.proofs.Put.{put-none, put_then, put_as}
-use Rattle.mask_text.proofs.Listed.{keep-more, keep-first}
+use Rattle.model.specs.Masks.{mask_count}
 use Rattle.mask_text.proofs.list_group.Given as goal
 
 abbrev pub invariant-loop-m : goal.invariant-loop-m

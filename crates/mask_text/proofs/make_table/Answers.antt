@@ -1,12 +1,11 @@
 -- `mask_text::make_table` meets its contract: the groups of fewer than c ones are listed.
 -- Assumes nothing.
 use mathlib.Core.Path.{◌≡◌, sym, ap, ◌∙◌}
-use borrow.Author.Rules.{rules}
-use Prim.Native.Nat.{ℕ, suc, ◌+◌, ◌-◌, ◌≤◌}
+use Prim.Native.Nat.{ℕ, suc, ◌+◌, ◌≤◌}
 use native.Mathlib.Numerals.{add-one}
 use native.Mathlib.Omega.{arith}
 use lib.ListN.{length, replicate, length-replicate}
-use Rattle.model.specs.Bytes.{overwrite, Put}
+use Rattle.model.specs.Bytes.{overwrite}
 use Rattle.model.specs.Limits.{max_window}
 use Rattle.model.specs.Masks.{mask_count, group, groups_below, group_start, mask_table}
 use Rattle.masks.proofs.Groups.{groups_below-suc, group_start-suc, group_start-le, length-table}

@@ -1,15 +1,12 @@
 -- `mask_text::put_lines` meets its contract: the lines of the first i numbers are written.
 -- Assumes nothing.
-use mathlib.Core.Path.{◌≡◌, refl, ap, ◌∙◌}
+use mathlib.Core.Path.{refl, ap, ◌∙◌}
 use mathlib.Core.List.{List}
-use borrow.Author.Rules.{rules}
-use Prim.Native.Nat.{ℕ, ◌+◌, ◌-◌, ◌≤◌, ◌<◌}
+use Prim.Native.Nat.{ℕ, ◌+◌, ◌≤◌, ◌<◌}
 use native.Mathlib.Omega.{arith}
 use lib.ListN.{length, get_or, take, length-append}
 use lib.Seq.{take_all}
-use Rattle.model.specs.Bytes.{Put}
 use Rattle.model.specs.Lists.{flat_map}
-use Rattle.model.specs.Masks.{mask_count}
 use Rattle.model.specs.Text.{number_line}
 use Rattle.words.proofs.Put.{put-none, put_then, put_as}
 use Rattle.mask_text.proofs.Listed.{lines_more, lines_first}

@@ -2,14 +2,13 @@
 -- Assumes nothing.
 use mathlib.Core.Path.{◌≡◌, refl, sym, ap, ◌∙◌}
 use mathlib.Core.List.{List, [], ◌++◌}
-use Prim.Native.Nat.{ℕ, ◌+◌, ◌-◌, ◌≤◌}
+use Prim.Native.Nat.{ℕ}
 use native.Mathlib.Omega.{arith}
 use lib.ListN.{get_or}
-use borrow.Author.Rules.{rules}
 use Rattle.model.specs.Lists.{cons_if}
 use Rattle.model.specs.Masks.{mask_table}
 use Rattle.model.proofs.Tests.{one-le}
-use Rattle.masks.specs.Clear.{clear_of, clear_in, Lists}
+use Rattle.masks.specs.Clear.{clear_of, clear_in}
 use Rattle.masks.proofs.Clear.{clear_none, clear_more, lists-none, lists-more, lists-same}
 use Rattle.masks.proofs.list_clear.Goals as goal
 

@@ -2,14 +2,13 @@
 -- Assumes nothing.
 use mathlib.Core.Path.{◌≡◌, sym, ap, ◌∙◌}
 use mathlib.Core.List.{◌++◌, []}
-use Prim.Native.Nat.{ℕ, ◌+◌, ◌-◌, ◌*◌, ◌^◌, ◌≤◌}
+use Prim.Native.Nat.{ℕ, ◌+◌, ◌*◌, ◌^◌}
 use native.Mathlib.Nat.{mul-one, mul_assoc, mul-le-mul_left}
 use native.Mathlib.Omega.{arith}
 use lib.Pow.{pow-add, pow_mono}
-use borrow.Author.Rules.{rules}
 use Rattle.model.specs.Lists.{cons_if}
 use Rattle.model.proofs.Tests.{one-le}
-use Rattle.masks.specs.Clear.{clear_of, clear_runs, Lists}
+use Rattle.masks.specs.Clear.{clear_of, clear_runs}
 use Rattle.masks.proofs.Clear.{runs_none, runs-more, lists-none, lists-more, lists-same}
 use Rattle.masks.proofs.list_runs.Goals as goal
 

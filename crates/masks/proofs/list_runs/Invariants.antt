@@ -1,16 +1,8 @@
 -- `masks::list_runs` meets its contract: so far the clear ones of the first k masks are listed. The measure is how many masks are left.
 -- Assumes nothing.
-use mathlib.Core.Path.{◌≡◌, sym, ap, ◌∙◌}
-use mathlib.Core.List.{◌++◌, []}
-use Prim.Native.Nat.{ℕ, ◌+◌, ◌-◌, ◌*◌, ◌^◌, ◌≤◌}
-use native.Mathlib.Nat.{mul-one, mul_assoc, mul-le-mul_left}
-use native.Mathlib.Omega.{arith}
-use lib.Pow.{pow-add, pow_mono}
-use borrow.Author.Rules.{rules}
-use Rattle.model.specs.Lists.{cons_if}
-use Rattle.model.proofs.Tests.{one-le}
-use Rattle.masks.specs.Clear.{clear_of, clear_runs, Lists}
-use Rattle.masks.proofs.Clear.{runs_none, runs-more, lists-none, lists-more, lists-same}
+use mathlib.Core.Path.{◌≡◌}
+use Prim.Native.Nat.{◌+◌, ◌-◌, ◌*◌, ◌^◌, ◌≤◌}
+use Rattle.masks.specs.Clear.{clear_runs, Lists}
 use Rattle.masks.proofs.list_runs.Given as goal
 
 abbrev pub invariant-loop-k : goal.invariant-loop-k

@@ -1,7 +1,6 @@
 -- `plan::byte_at` meets its contract: past the end of a list `get_or` gives its default.
 -- Assumes nothing.
 use mathlib.Core.Path.{sym}
-use borrow.Author.Rules.{rules}
 use lib.ListN.{get_or-eq_default}
 use Rattle.plan.proofs.byte_at.Goals as goal
 

@@ -1,7 +1,6 @@
 -- `plan::fault_of` meets its contract: each test's result is the definition's.
 -- Assumes nothing.
 use mathlib.Core.Path.{◌∙◌}
-use borrow.Author.Rules.{rules}
 use lib.Dec.{ltb}
 use Rattle.model.specs.Plan.{first_fault}
 use Rattle.plan.proofs.fault_of.Goals as goal

@@ -2,7 +2,6 @@
 -- Assumes nothing.
 use mathlib.Core.Path.{◌≡◌, refl, sym}
 use mathlib.Core.Bool.{Bool}
-use borrow.Author.Tests.{not-true, not-false}
 use Rattle.model.specs.Plan.{first_fault}
 use Rattle.plan.proofs.first_fault.Statement.{statement}
 use Rattle.plan.proofs.first_fault.Tie as tie

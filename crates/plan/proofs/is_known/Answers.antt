@@ -2,7 +2,6 @@
 -- Assumes nothing.
 use mathlib.Core.Path.{◌∙◌, sym, ap, ap₂}
 use mathlib.Core.Bool.{Bool, not, ◌&&◌, ◌||◌, and-false, and-true}
-use borrow.Author.Rules.{rules}
 use borrow.Author.Tests.{eq-eqb, ne_eqb}
 use Rattle.plan.proofs.is_known.Goals as goal
 

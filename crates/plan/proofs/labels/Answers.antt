@@ -1,6 +1,5 @@
 -- `plan::labels` meets its contract: a power of two of so few bits fits the word.
 -- Assumes nothing.
-use borrow.Author.Rules.{rules}
 use native.Mathlib.Omega.{arith}
 use Rattle.model.proofs.Runs.{one-moved}
 use Rattle.plan.proofs.labels.Goals as goal

@@ -1,7 +1,6 @@
 -- `plan::next_state` meets its contract: a pair's entry is its next state, and past the table's labels there is none.
 -- Assumes nothing.
 use mathlib.Core.Path.{sym, ap, ◌∙◌}
-use borrow.Author.Rules.{rules}
 use Prim.Native.Nat.{ℕ}
 use lib.ListN.{get_or}
 use Rattle.plan.specs.View.{next_of}

@@ -2,7 +2,6 @@
 -- Assumes nothing.
 use mathlib.Core.Path.{ap}
 use mathlib.Core.Logic.{inr}
-use borrow.Author.Rules.{rules}
 use Rattle.model.specs.Edition.{Edition}
 use Rattle.plan.proofs.read.Goals as goal
 

@@ -1,7 +1,6 @@
 -- `plan::refused` meets its contract: the plan is the one before the first command.
 -- Assumes nothing.
 use mathlib.Core.Path.{◌∙◌}
-use borrow.Author.Rules.{rules}
 use Rattle.plan.specs.declared.Outcome.TheVariants.{Faulty}
 use Rattle.plan.specs.View.{answered}
 use Rattle.plan.proofs.refused.Goals as goal

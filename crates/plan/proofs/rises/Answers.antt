@@ -1,6 +1,5 @@
 -- `plan::rises` meets its contract: an arc's pair is compared with the least that rises, a lock's number with the last lock.
 -- Assumes nothing.
-use borrow.Author.Rules.{rules}
 use borrow.Author.Tests.{ne_eqb}
 use Rattle.plan.proofs.rises.Goals as goal
 

@@ -35,16 +35,14 @@ loop-k-smaller c = omega arith
 
 pub loop-k-preserved : goal.loop-k-preserved
 loop-k-preserved c =
-    let turn = c in
-    let a = turn.args in
-    let k = turn.loop-k.k in (
+    let a = c.args in
+    let k = c.loop-k.k in (
       omega arith,
-      written-more (staying_in a.cells.now a.left.now) max_tasks _ 0 k k (max_tasks + k) (omega arith) refl turn.loop-k-test.true c.if_staying.ensures turn.loop-k.invariant.1,
+      written-more (staying_in a.cells.now a.left.now) max_tasks _ 0 k k (max_tasks + k) (omega arith) refl c.loop-k-test.true c.if_staying.ensures c.loop-k.invariant.1,
     )
 
 pub returns : goal.returns
 unfolding aged
 returns c =
-    let head = c in
-    let a = head.args in
-    written_all (staying_in a.cells.now a.left.now) max_tasks _ head.loop-k.k cell_count (omega arith) refl head.loop-k.invariant.1
+    let a = c.args in
+    written_all (staying_in a.cells.now a.left.now) max_tasks _ c.loop-k.k cell_count (omega arith) refl c.loop-k.invariant.1

@@ -26,17 +26,15 @@ loop-k-smaller c = omega arith
 pub loop-k-preserved : goal.loop-k-preserved
 unfolding greatest
 loop-k-preserved c =
-    let head = c in
-    let cells = head.args.cells.now in (
+    let cells = c.args.cells.now in (
       omega arith,
       c.most-work.ensures
-          ∙ ap (λ (w : ℕ). cond (ltb w (get_or cells head.loop-k.k 0)) (get_or cells head.loop-k.k 0) w) head.loop-k.invariant.1
-          ∙ ap (greatest (λ i. get_or cells i 0)) (sym (add-one head.loop-k.k)),
+          ∙ ap (λ (w : ℕ). cond (ltb w (get_or cells c.loop-k.k 0)) (get_or cells c.loop-k.k 0) w) c.loop-k.invariant.1
+          ∙ ap (greatest (λ i. get_or cells i 0)) (sym (add-one c.loop-k.k)),
     )
 
 pub returns : goal.returns
 unfolding has_job
 returns c =
-    let head = c in
-    let end : head.loop-k.k ≡ slot_cells = omega arith in
-    ap (ltb 0) (head.loop-k.invariant.1 ∙ ap (greatest (λ i. get_or head.args.cells.now i 0)) end)
+    let end : c.loop-k.k ≡ slot_cells = omega arith in
+    ap (ltb 0) (c.loop-k.invariant.1 ∙ ap (greatest (λ i. get_or c.args.cells.now i 0)) end)

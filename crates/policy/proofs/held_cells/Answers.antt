@@ -27,16 +27,14 @@ loop-k-smaller c = omega arith
 
 pub loop-k-preserved : goal.loop-k-preserved
 loop-k-preserved c =
-    let turn = c in
-    let a = turn.args in
-    let k = turn.loop-k.k in (
+    let a = c.args in
+    let k = c.loop-k.k in (
       omega arith,
-      written-more (held_in a.cells.now a.hold.now) 0 _ 0 k k k (omega arith) (omega arith) turn.loop-k-test.true c.if_held.ensures turn.loop-k.invariant.1,
+      written-more (held_in a.cells.now a.hold.now) 0 _ 0 k k k (omega arith) (omega arith) c.loop-k-test.true c.if_held.ensures c.loop-k.invariant.1,
     )
 
 pub returns : goal.returns
 unfolding held_cells
 returns c =
-    let head = c in
-    let a = head.args in
-    written_all (held_in a.cells.now a.hold.now) 0 _ head.loop-k.k slot_cells (omega arith) refl head.loop-k.invariant.1
+    let a = c.args in
+    written_all (held_in a.cells.now a.hold.now) 0 _ c.loop-k.k slot_cells (omega arith) refl c.loop-k.invariant.1

@@ -25,13 +25,11 @@ loop-k-smaller c = omega arith
 
 pub loop-k-preserved : goal.loop-k-preserved
 loop-k-preserved c =
-    let head = c in
-    let k = head.loop-k.k in (
+    let k = c.loop-k.k in (
       omega arith,
-      written-more (left_in (tasks_of head.args.tasks head.args.count)) 0 _ 0 k k k (omega arith) (omega arith) c.loop-k-test.true c.left_in.ensures head.loop-k.invariant.1,
+      written-more (left_in (tasks_of c.args.tasks c.args.count)) 0 _ 0 k k k (omega arith) (omega arith) c.loop-k-test.true c.left_in.ensures c.loop-k.invariant.1,
     )
 
 pub returns : goal.returns
 returns c =
-    let head = c in
-    written_all (left_in (tasks_of head.args.tasks head.args.count)) 0 _ head.loop-k.k slot_cells (omega arith) refl head.loop-k.invariant.1
+    written_all (left_in (tasks_of c.args.tasks c.args.count)) 0 _ c.loop-k.k slot_cells (omega arith) refl c.loop-k.invariant.1

@@ -7,10 +7,9 @@ use Rattle.policy.proofs.rules_of.Goals as goal
 
 pub returns : goal.returns
 returns c =
-    let start = c in
-    let plan = start.args.plan in
+    let plan = c.args.plan in
     record {
-      ruled = record { tasks = tasks_range (plan_of plan) start.requires.1; size = tasks-size plan start.requires.0; left = c.left_table-left.ensures; hold = c.hold_table-hold.ensures };
+      ruled = record { tasks = tasks_range (plan_of plan) c.requires.1; size = tasks-size plan c.requires.0; left = c.left_table-left.ensures; hold = c.hold_table-hold.ensures };
       tasks = refl;
       policy = refl;
     }

@@ -12,9 +12,8 @@ use Rattle.policy.proofs.widen.Goals as goal
 
 pub returns : goal.returns
 returns c =
-    let start = c in
-    let cells = start.args.cells in
-    let size : length cells ≡ cell_count = omega (arith, start.well_formed) in
+    let cells = c.args.cells in
+    let size : length cells ≡ cell_count = omega (arith, c.well_formed) in
     let few : length cells ≤ cell_count = omega arith in
     c.copy.ensures ∙ ap (overwrite (replicate slot_cells 0) 0) (take_all cell_count cells few)
     ∙ write-front (replicate slot_cells 0) cells cell_count size

@@ -1,18 +1,14 @@
 -- `potentials::edges_hold` meets its contract: the nodes one after another. Assumes nothing.
-use mathlib.Core.Path.{◌≡◌, refl, sym, ap, subst, ◌∙◌}
+use mathlib.Core.Path.{◌≡◌}
 use mathlib.Core.Bool.{true}
-use Prim.Native.Nat.{ℕ, ◌+◌, ◌-◌, ◌≤◌}
-use native.Mathlib.Omega.{arith}
+use Prim.Native.Nat.{◌+◌, ◌-◌, ◌≤◌}
 use lib.ListN.{length}
-use borrow.Author.Tests.{not-true, not-false}
-use Rattle.words.proofs.Free.{only_refl, only_trans}
 use Rattle.model.specs.Certificate.{Certificate}
 use Rattle.model.specs.Lists.{all, up_from}
 use Rattle.model.specs.Plan.{Plan}
-use Rattle.model.proofs.All.{all-next, all_stops}
 use Rattle.graph.specs.Outcomes.{NotesFree}
 use Rattle.potentials.specs.Potentials.{Test}
-use Rattle.potentials.proofs.Nodes.{row_ok, edges-rows}
+use Rattle.potentials.proofs.Nodes.{row_ok}
 use Rattle.potentials.proofs.edges_hold.Given as goal
 
 abbrev pub invariant-loop-number : goal.invariant-loop-number

@@ -10,7 +10,6 @@ use mir.Syntax.{w64}
 use mir.Val.{SFits, to_z, of_z}
 use mir.Facts.{to_z-of_z}
 use borrow.Author.Rules.{rules}
-use borrow.Author.Tests.{not-true, not-false}
 use Rattle.model.specs.Certificate.{Certificate, read_certificate}
 use Rattle.model.specs.Lists.{all, up_from}
 use Rattle.model.proofs.All.{all_map, all-next, all_stops}

@@ -5,11 +5,5 @@ use mir.Facts.{to_z_pos}
 use Rattle.potentials.proofs.Weights.{charge_small}
 use Rattle.potentials.proofs.times.Goals as goal
 
-pub overflow_mul-result : goal.overflow_mul-result
-overflow_mul-result c = record { fits = omega (arith, charge_small c.args.price c.args.gain c.requires c.ranges.gain.fits) }
-
-pub overflow_cast-result-3 : goal.overflow_cast-result-3
-overflow_cast-result-3 c = record { sfits = omega (arith, charge_small c.args.price c.args.gain c.requires c.ranges.gain.fits) }
-
 pub returns : goal.returns
 returns c = to_z_pos w64 (omega (arith, charge_small c.args.price c.args.gain c.requires c.ranges.gain.fits))

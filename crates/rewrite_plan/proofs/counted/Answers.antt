@@ -7,6 +7,4 @@ use Rattle.rewrite_plan.proofs.counted.Goals as goal
 
 pub returns : goal.returns
 returns c =
-    let g = c in
-    let n = g in
-    c.spacing.ensures ∙ sym (λ i. counted_is n.args.word (n.in-Of.is i) (g.in-Of-slots.is i))
+    c.spacing.ensures ∙ sym (λ i. counted_is c.args.word (c.in-Of.is i) (c.in-Of-slots.is i))

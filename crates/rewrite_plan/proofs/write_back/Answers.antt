@@ -11,5 +11,4 @@ print-requires c = told_printable (plan_bytes_in first_edition) _ _ _ _ (search 
 
 pub returns : goal.returns
 returns c =
-    let p = c in
-    finished (plan_bytes_in first_edition) _ _ _ _ _ _ p.back-answer.ensures.converts.told p.print.ensures
+    finished (plan_bytes_in first_edition) _ _ _ _ _ _ c.back-answer.ensures.converts.told c.print.ensures

@@ -10,5 +10,4 @@ print-requires c = told_printable plan_bytes _ _ _ _ (search rules) c.rewrite-an
 
 pub returns : goal.returns
 returns c =
-    let p = c in
-    finished plan_bytes _ _ _ _ _ _ p.rewrite-answer.ensures.told p.print.ensures
+    finished plan_bytes _ _ _ _ _ _ c.rewrite-answer.ensures.told c.print.ensures

@@ -10,5 +10,4 @@ print-requires c = told_printable plan_bytes _ _ _ _ (search rules) c.forth-answ
 
 pub returns : goal.returns
 returns c =
-    let p = c in
-    finished plan_bytes _ _ _ _ _ _ p.forth-answer.ensures.converts.told p.print.ensures
+    finished plan_bytes _ _ _ _ _ _ c.forth-answer.ensures.converts.told c.print.ensures

@@ -5,5 +5,4 @@ use Rattle.run_block.proofs.main.Goals as goal
 
 pub run_parts-requires : goal.run_parts-requires
 run_parts-requires c =
-    let e = c in
-    (e.set_up-set.ensures.taken e.in-Sound.is).2.ready
+    (c.set_up-set.ensures.taken c.in-Sound.is).2.ready

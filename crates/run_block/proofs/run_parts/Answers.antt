@@ -21,16 +21,14 @@ run_part-run-requires c = c.loop-turns.invariant.runs.ready
 
 pub returns-then-run-ne-PART : goal.returns-then-run-ne-PART
 returns-then-run-ne-PART c =
-    let k = c in
-    let h = k.loop-turns.invariant in
-    let p = k.run_part-run.ensures in
+    let h = c.loop-turns.invariant in
+    let p = c.run_part-run.ensures in
     (h.writes ++ p.0, runs_parts _ _ _ h.writes p.0 _ _ h.even h.runs p.2)
 
 pub loop-turns-preserved : goal.loop-turns-preserved
 loop-turns-preserved c =
-    let k = c in
-    let h = k.loop-turns.invariant in
-    let p = k.run_part-run.ensures in
+    let h = c.loop-turns.invariant in
+    let p = c.run_part-run.ensures in
     let full : length p.0 ≡ part_bytes = omega (arith, p.1, c.if-run-ne-PART.false) in
     record {
       writes = h.writes ++ p.0;

@@ -1,6 +1,5 @@
 -- `solver::solve_bytes` meets its contract: the plan's fault, or the certificate of a sound plan. Assumes nothing.
 use mathlib.Core.Path.{refl, sym, subst}
-use borrow.Author.Rules.{rules}
 use Rattle.model.specs.Plan.{PlanAnswer}
 use Rattle.model.specs.Solve.{solve_plan}
 use Rattle.words.proofs.Free.{only_refl}
@@ -13,23 +12,23 @@ use Rattle.solver.proofs.solve_bytes.Goals as goal
 
 pub solve_plan-requires : goal.solve_plan-requires
 solve_plan-requires c =
-    let r = c in
-    let s = c in
-    (r.read-read.ensures.0, record { bytes = s.args.plan.now; read = read_as _ r.read-read.ensures.1 c.in-Sound.is }, s.requires.0, s.requires.1)
+    let read = c.read-read.ensures in
+    (read.0, record { bytes = c.args.plan.now; read = read_as _ read.1 c.in-Sound.is }, c.requires.0, c.requires.1)
 
 pub returns-in-Faulty : goal.returns-in-Faulty
-returns-in-Faulty c = let r = c in
-    let a = c.args in record {
+returns-in-Faulty c =
+    let a = c.args in
+    let read = c.read-read in record {
       does = subst (λ (x : PlanAnswer). Does (solve_plan x) a.out.now a.out.now (Refused (Plan c.in-Faulty.f)))
-          (sym (read_as (plan_of r.read-read.result.plan) r.read-read.ensures.1 c.in-Faulty.is)) (record { number = refl; kept = refl });
+          (sym (read_as (plan_of read.result.plan) read.ensures.1 c.in-Faulty.is)) (record { number = refl; kept = refl });
       only = only_refl;
     }
 
 pub returns-in-Sound : goal.returns-in-Sound
-returns-in-Sound c = let call = c.solve_plan in
-    let r = c in
-    let a = c.args in record {
-      does = subst (λ (x : PlanAnswer). Does (solve_plan x) a.out.now call.new.1.1.0 call.result)
-          (sym (read_as (plan_of r.read-read.result.plan) r.read-read.ensures.1 c.in-Sound.is)) call.ensures.0;
-      only = call.ensures.1;
+returns-in-Sound c =
+    let call = c.solve_plan in
+    let read = c.read-read in record {
+      does = subst (λ (x : PlanAnswer). Does (solve_plan x) c.args.out.now call.new.out call.result)
+          (sym (read_as (plan_of read.result.plan) read.ensures.1 c.in-Sound.is)) call.ensures.does;
+      only = call.ensures.only;
     }

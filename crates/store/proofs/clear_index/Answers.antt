@@ -4,5 +4,4 @@ use Rattle.store.proofs.clear_index.Goals as goal
 
 pub returns : goal.returns
 returns c =
-    let start = c in
-    cleared-index start.args.m.now c.fill.new.s start.requires c.fill.ensures
+    cleared-index c.args.m.now c.fill.new.s c.requires c.fill.ensures

@@ -14,18 +14,6 @@ pub loop-k-init : goal.loop-k-init
 unfolding hash_words
 loop-k-init c = (omega arith, refl, omega arith)
 
-pub overflow_mul-k : goal.overflow_mul-k
-overflow_mul-k c = omega arith
-
-pub hash_step-h-requires : goal.hash_step-h-requires
-hash_step-h-requires c = c.loop-k.invariant.2
-
-pub overflow_add-k : goal.overflow_add-k
-overflow_add-k c = omega arith
-
-pub loop-k-smaller : goal.loop-k-smaller
-loop-k-smaller c = omega arith
-
 pub loop-k-preserved : goal.loop-k-preserved
 unfolding hash_words
 loop-k-preserved c =
@@ -36,24 +24,14 @@ loop-k-preserved c =
       c.hash_step-h.ensures.1,
     )
 
-pub overflow_add-last : goal.overflow_add-last
-overflow_add-last c = omega (arith, c.wide.ensures.1, c.read_u16-pattern.type_inv)
-
-pub hash_step-requires : goal.hash_step-requires
-hash_step-requires c = c.loop-k.invariant.2
-
-pub hash_step-mixed-requires : goal.hash_step-mixed-requires
-hash_step-mixed-requires c = c.hash_step.ensures.1
-
 pub returns : goal.returns
 unfolding hash_of
 returns c =
     let l = c.loop-k in
-    let start = c in
-    let row = start.args.row.now in
+    let row = c.args.row.now in
     let all : l.k ≡ cell_bytes / 4 = omega arith in
     let last : c.read_u16-pattern.result * 256 + c.wide.result ≡ number (part row cell_bytes 3) =
-    ap₂ (λ (a b : ℕ). a * 256 + b) c.read_u16-pattern.ensures c.wide.ensures.0 ∙ sym (number_more row cell_bytes 2 (omega (arith, start.requires))) in
+    ap₂ (λ (a b : ℕ). a * 256 + b) c.read_u16-pattern.ensures c.wide.ensures.0 ∙ sym (number_more row cell_bytes 2 (omega (arith, c.requires))) in
     let is =
     c.hash_step-mixed.ensures.0 ∙ ap (λ (h : ℕ). hash_step h 0) (c.hash_step.ensures.0 ∙ ap₂ hash_step (l.invariant.1 ∙ ap (hash_words row) all) last) in
     (ap (λ (h : ℕ). h / 4194304) is, subst (λ (h : ℕ). h < hashes) (sym (ap (λ (h : ℕ). h / 4194304) is)) (hash_lt row))

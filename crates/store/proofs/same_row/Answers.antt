@@ -5,24 +5,12 @@ use mathlib.Core.List.{List}
 use Prim.Native.Nat.{ℕ, ◌<◌}
 use native.Mathlib.Omega.{arith}
 use lib.ListN.{get_or}
-use borrow.Author.Count.{below_none, below_more}
+use borrow.Author.Count.{below_more}
 use Rattle.store.specs.Store.{row_bytes, row_at}
 use Rattle.store.proofs.Rows.{row-byte, row_ext}
 use Rattle.model.proofs.Tests.{same_numbers_lem}
 use Rattle.store.proofs.Search.{other_numbers}
 use Rattle.store.proofs.same_row.Goals as goal
-
-pub overflow_mul-at : goal.overflow_mul-at
-overflow_mul-at c = omega arith
-
-pub loop-same-init : goal.loop-same-init
-loop-same-init c = (omega arith, below_none _)
-
-pub overflow_add-at : goal.overflow_add-at
-overflow_add-at c = omega arith
-
-pub bounds-m-at : goal.bounds-m-at
-bounds-m-at c = omega arith
 
 pub returns-then-m-at : goal.returns-then-m-at
 returns-then-m-at c =
@@ -30,12 +18,6 @@ returns-then-m-at c =
     let i = c.loop-same.same in
     let h : i < row_bytes = omega arith in
     sym ((other_numbers (row_at a.m.now a.j) a.row.now).1 (λ e. c.if-m-at.true (sym (row-byte a.m.now a.j i h) ∙ ap (λ (l : List ℕ). get_or l i 0) e)))
-
-pub overflow_add-same : goal.overflow_add-same
-overflow_add-same c = omega arith
-
-pub loop-same-smaller : goal.loop-same-smaller
-loop-same-smaller c = omega arith
 
 pub loop-same-preserved : goal.loop-same-preserved
 loop-same-preserved c = (omega arith, below_more _ _ c.loop-same.invariant.1 c.if-m-at.false)

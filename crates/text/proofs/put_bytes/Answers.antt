@@ -1,7 +1,6 @@
 -- `text::put_bytes` meets its contract: the whole slice is copied.
 -- Assumes nothing.
 use mathlib.Core.Path.{refl, ap, ◌∙◌}
-use borrow.Author.Rules.{rules}
 use lib.Seq.{take-length}
 use Rattle.model.specs.Bytes.{overwrite}
 use Rattle.text.proofs.put_bytes.Goals as goal

@@ -29,9 +29,9 @@ pub copy-requires : goal.copy-requires
 copy-requires c =
     let e = c.decimal-k.ensures in
     record {
-  n_in_bounds = omega (arith, e.in_bounds.1);
-  n_in_bounds_2 = omega (arith, made _ _ _ e.in_bounds.1 e.len e.digits);
-}
+      n_in_bounds = omega (arith, e.in_bounds.1);
+      n_in_bounds_2 = omega (arith, made _ _ _ e.in_bounds.1 e.len e.digits);
+    }
 
 pub overflow_add-result : goal.overflow_add-result
 overflow_add-result c =

@@ -4,7 +4,6 @@ use native.Mathlib.Omega.{arith}
 use lib.ListN.{length-append}
 use Rattle.model.specs.Text.{decimal}
 use Rattle.words.proofs.Put.{put_join}
-use borrow.Author.Rules.{rules}
 use Rattle.text.proofs.put_number_with.Goals as goal
 
 pub put_number-number-requires : goal.put_number-number-requires

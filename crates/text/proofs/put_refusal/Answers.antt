@@ -1,6 +1,5 @@
 -- `text::put_refusal` meets its contract: a word, a number and a line feed, one after the other.
 -- Assumes nothing.
-use borrow.Author.Rules.{rules}
 use native.Mathlib.Omega.{arith}
 use Rattle.model.specs.Text.{refused_line}
 use Rattle.text.proofs.Decimal.{refused-length}

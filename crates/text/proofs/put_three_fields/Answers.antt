@@ -4,7 +4,6 @@ use lib.ListN.{length-append}
 use Rattle.model.specs.Text.{field}
 use Rattle.text.proofs.Decimal.{three_length}
 use Rattle.words.proofs.Put.{put_join}
-use borrow.Author.Rules.{rules}
 use Rattle.text.proofs.put_three_fields.Goals as goal
 
 pub put_field-a-requires : goal.put_field-a-requires

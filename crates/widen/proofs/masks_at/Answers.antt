@@ -5,9 +5,5 @@ use Rattle.widen.proofs.masks_at.Goals as goal
 
 pub returns : goal.returns
 returns c =
-    let third = c in
-    let second = third in
-    let first = second in
-    let s = first in
-    masks-packed s.args.s.now s.args.at s.requires first.byte-a.result second.byte-b.result third.byte-c.result c.byte-d.result
-    first.byte-a.ensures second.byte-b.ensures third.byte-c.ensures c.byte-d.ensures
+    masks-packed c.args.s.now c.args.at c.requires c.byte-a.result c.byte-b.result c.byte-c.result c.byte-d.result
+    c.byte-a.ensures c.byte-b.ensures c.byte-c.ensures c.byte-d.ensures

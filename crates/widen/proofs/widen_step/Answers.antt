@@ -10,8 +10,7 @@ use Rattle.widen.proofs.widen_step.Goals as goal
 
 pub returns : goal.returns
 returns c =
-    let w = c in
     let a = c.args in
-    w.write_step.ensures
+    c.write_step.ensures
     ∙ ap (λ ms. overwrite a.out.now a.at (step_bytes long_reads (record { label = get_or a.s.now (a.from + 1) 0; masks = ms })))
-    w.masks_at.ensures
+    c.masks_at.ensures

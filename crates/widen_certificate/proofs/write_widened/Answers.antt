@@ -10,5 +10,4 @@ print-requires c = told_printable certificate_bytes _ _ _ _ (search rules) c.wid
 
 pub returns : goal.returns
 returns c =
-    let p = c in
-    finished certificate_bytes _ _ _ _ _ _ p.widen-answer.ensures.told p.print.ensures
+    finished certificate_bytes _ _ _ _ _ _ c.widen-answer.ensures.told c.print.ensures

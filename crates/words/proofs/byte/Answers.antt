@@ -1,7 +1,6 @@
 -- `words::byte` meets its contract: a byte of a slice is below 256. Assumes nothing.
 use mathlib.Core.Path.{refl}
 use native.Mathlib.Omega.{arith}
-use borrow.Author.Rules.{rules}
 use Rattle.words.proofs.byte.Goals as goal
 
 pub overflow_cast-result : goal.overflow_cast-result

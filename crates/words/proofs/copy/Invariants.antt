@@ -1,13 +1,9 @@
 -- `words::copy` meets its contract. The invariant of its loop: copied bytes of src are written, copied is at most n, and the length is as it was. The measure is what is left of n.
 -- Assumes nothing.
-use mathlib.Core.List.{List}
-use mathlib.Core.Path.{◌≡◌, refl, sym, ap, ◌∙◌}
-use Prim.Native.Nat.{ℕ, ◌+◌, ◌-◌, ◌≤◌}
-use native.Mathlib.Omega.{arith}
-use lib.ListN.{length, get_or, set, length-set}
-use borrow.Author.Rules.{rules}
+use mathlib.Core.Path.{◌≡◌}
+use Prim.Native.Nat.{◌-◌, ◌≤◌}
+use lib.ListN.{length}
 use Rattle.model.specs.Bytes.{overwrite, part}
-use Rattle.words.proofs.Memory.{overwrite-none, overwrite-more, part_length, part-more}
 use Rattle.words.proofs.copy.Given as goal
 
 abbrev pub invariant-loop-copied : goal.invariant-loop-copied

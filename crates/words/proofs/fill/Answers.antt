@@ -2,10 +2,9 @@
 -- Assumes nothing.
 use mathlib.Core.List.{List}
 use mathlib.Core.Path.{◌≡◌, refl, sym, ap, ◌∙◌}
-use Prim.Native.Nat.{ℕ, ◌+◌, ◌-◌, ◌≤◌}
+use Prim.Native.Nat.{ℕ, ◌+◌}
 use native.Mathlib.Omega.{arith}
-use lib.ListN.{length, set, replicate, length-set, length-replicate, replicate-append-replicate}
-use borrow.Author.Rules.{rules}
+use lib.ListN.{set, replicate, length-set, length-replicate, replicate-append-replicate}
 use Rattle.model.specs.Bytes.{overwrite}
 use Rattle.words.proofs.Memory.{overwrite-none, overwrite-more}
 use Rattle.words.proofs.fill.Goals as goal

@@ -1,13 +1,9 @@
 -- `words::fill` meets its contract. The invariant of its loop: filled bytes are written, filled is at most n, and the length is as it was. The measure is what is left of n.
 -- Assumes nothing.
-use mathlib.Core.List.{List}
-use mathlib.Core.Path.{◌≡◌, refl, sym, ap, ◌∙◌}
-use Prim.Native.Nat.{ℕ, ◌+◌, ◌-◌, ◌≤◌}
-use native.Mathlib.Omega.{arith}
-use lib.ListN.{length, set, replicate, length-set, length-replicate, replicate-append-replicate}
-use borrow.Author.Rules.{rules}
+use mathlib.Core.Path.{◌≡◌}
+use Prim.Native.Nat.{◌-◌, ◌≤◌}
+use lib.ListN.{length, replicate}
 use Rattle.model.specs.Bytes.{overwrite}
-use Rattle.words.proofs.Memory.{overwrite-none, overwrite-more}
 use Rattle.words.proofs.fill.Given as goal
 
 abbrev pub invariant-loop-filled : goal.invariant-loop-filled

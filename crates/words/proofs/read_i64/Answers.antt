@@ -8,7 +8,6 @@ use mir.Val.{SFits, to_z, of_z}
 use mir.Facts.{to_z-of_z, to_z_pos}
 use Rattle.model.specs.Bytes.{signed}
 use Rattle.words.proofs.Complement.{signed_low, signed_high, not-pos}
-use borrow.Author.Rules.{rules}
 use Rattle.words.proofs.read_i64.Goals as goal
 
 -- minus one less the number's distance from the top, as the code computes it

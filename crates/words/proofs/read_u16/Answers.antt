@@ -1,7 +1,6 @@
 -- `words::read_u16` meets its contract: the number of one byte, and of one more (`number_more`). Assumes nothing.
 use native.Mathlib.Omega.{arith}
 use Rattle.words.proofs.Words.{number-byte, number_more}
-use borrow.Author.Rules.{rules}
 use Rattle.words.proofs.read_u16.Goals as goal
 
 pub returns : goal.returns

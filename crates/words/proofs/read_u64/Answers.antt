@@ -1,7 +1,6 @@
 -- `words::read_u64` meets its contract: a number is made of the numbers of its two halves (`number-part`). Assumes nothing.
 use native.Mathlib.Omega.{arith}
 use Rattle.words.proofs.Words.{number-part}
-use borrow.Author.Rules.{rules}
 use Rattle.words.proofs.read_u64.Goals as goal
 
 pub returns : goal.returns

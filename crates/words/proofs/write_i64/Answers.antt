@@ -3,7 +3,6 @@ use mir.Facts.{to_z-of_z}
 use mathlib.Core.Path.{ap, ◌∙◌}
 use Prim.Native.Nat.{ℕ}
 use Rattle.model.specs.Bytes.{bytes, complement, overwrite}
-use borrow.Author.Rules.{rules}
 use Rattle.words.proofs.write_i64.Goals as goal
 
 pub returns : goal.returns

@@ -6,7 +6,6 @@ use native.Mathlib.Omega.{arith}
 use lib.ListN.{set, length-set}
 use Rattle.model.specs.Bytes.{bytes, overwrite}
 use Rattle.words.proofs.Words.{overwrite-byte, overwrite-bytes}
-use borrow.Author.Rules.{rules}
 use Rattle.words.proofs.write_u16.Goals as goal
 
 pub bounds-s-at-2 : goal.bounds-s-at-2

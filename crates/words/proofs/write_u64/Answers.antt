@@ -5,7 +5,6 @@ use Prim.Native.Nat.{ℕ, ◌+◌, ◌%◌, ◌^◌}
 use native.Mathlib.Omega.{arith}
 use Rattle.model.specs.Bytes.{bytes, overwrite}
 use Rattle.words.proofs.Words.{overwrite-bytes}
-use borrow.Author.Rules.{rules}
 use Rattle.words.proofs.write_u64.Goals as goal
 
 pub returns : goal.returns

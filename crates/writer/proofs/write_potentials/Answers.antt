@@ -46,9 +46,9 @@ loop-i-preserved c =
     let start = call in
     let more = call.loop-i-test.true in
     let distance : _ ≡ (link_in start.args.m.now l.i).distance =
-    to_z-of_z {w = w64} (record { sfits = told.type_inv.link.0.1 }) ∙ ap (λ (x : Link). x.distance) call.link_to-link.ensures in (
+    to_z-of_z {w = w64} (record { sfits = told.struct_told-1.given.0.1 }) ∙ ap (λ (x : Link). x.distance) call.link_to-link.ensures in (
       omega (arith, more),
-      write.auto.0 ∙ l.invariant.1,
+      write.auto.out ∙ l.invariant.1,
       write.ensures
           ∙ (λ j. overwrite (l.invariant.2 j) (head_size + potential_size * l.i) (potential_bytes (distance j)))
           ∙ potentials-more start.args.m.now start.args.out.now l.i (omega (arith, more, start.requires.2)),
