@@ -19,11 +19,8 @@ returns-then-run c = by-answers c.args.kind (sym c.if-run.true ∙ c.run.ensures
 
 pub returns-then-run-2 : goal.returns-then-run-2
 returns-then-run-2 c =
-    let p = c in
-    by-answers p.args.kind (sym p.if-run.false ∙ p.run.ensures) (sym c.if-run-2.true ∙ c.run-2.ensures) refl
+    by-answers c.args.kind (sym c.if-run.false ∙ c.run.ensures) (sym c.if-run-2.true ∙ c.run-2.ensures) refl
 
 pub returns : goal.returns
 returns c =
-    let e = c in
-    let p = e in
-    by-answers p.args.kind (sym p.if-run.false ∙ p.run.ensures) (sym e.if-run-2.false ∙ e.run-2.ensures) c.run-3.ensures
+    by-answers c.args.kind (sym c.if-run.false ∙ c.run.ensures) (sym c.if-run-2.false ∙ c.run-2.ensures) c.run-3.ensures

@@ -4,7 +4,6 @@ use mathlib.Core.Path.{◌≡◌, sym, ap, ◌∙◌}
 use mathlib.Core.List.{[]}
 use Rattle.model.specs.Controller.{replay_number}
 use Rattle.model.specs.Plan.{PlanAnswer}
-use borrow.Author.Rules.{rules}
 use Rattle.block_cases.proofs.scripts.block_case.Goals as goal
 
 -- the number of an answer that is known
@@ -12,18 +11,14 @@ answered : {a b : PlanAnswer} → a ≡ b → replay_number b [] ≡ replay_numb
 answered e = sym (ap (λ (a : PlanAnswer). replay_number a []) e)
 
 pub write_items-requires : goal.write_items-requires
-write_items-requires c =
-    let e = c in
-    (e.set_up-set.ensures.taken e.in-Sound.is).2.ready
+write_items-requires c = (c.set_up-set.ensures.taken c.in-Sound.is).2.ready
 
 pub returns-in-Faulty : goal.returns-in-Faulty
 returns-in-Faulty c =
-    let o = c in
-    let s = o.set_up-set in
-    (_, c.number.ensures ∙ answered (s.ensures.refused _ o.in-Faulty.is).0)
+    let s = c.set_up-set in
+    (_, c.number.ensures ∙ answered (s.ensures.refused _ c.in-Faulty.is).0)
 
 pub returns-in-Sound : goal.returns-in-Sound
 returns-in-Sound c =
-    let e = c in
-    let s = e.set_up-set in
-    (_, answered (s.ensures.taken e.in-Sound.is).1)
+    let s = c.set_up-set in
+    (_, answered (s.ensures.taken c.in-Sound.is).1)

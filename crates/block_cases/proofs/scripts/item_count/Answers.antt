@@ -3,7 +3,6 @@
 use mathlib.Core.Path.{sym}
 use native.Mathlib.Omega.{arith}
 use lib.ListN.{get_or-eq_default}
-use borrow.Author.Rules.{rules}
 use Rattle.block_cases.proofs.scripts.item_count.Goals as goal
 
 pub returns-then-item-lt-HEAD : goal.returns-then-item-lt-HEAD

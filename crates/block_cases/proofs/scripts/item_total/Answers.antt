@@ -3,7 +3,6 @@
 use mathlib.Core.Path.{sym, ap₂, ◌∙◌}
 use Prim.Native.Nat.{◌*◌}
 use native.Mathlib.Omega.{arith}
-use borrow.Author.Rules.{rules}
 use Rattle.block_cases.proofs.Items.{product_small, total_short, total_whole}
 use Rattle.block_cases.proofs.scripts.item_total.Goals as goal
 
@@ -15,5 +14,4 @@ overflow_mul-result c = record { fits = product_small (omega arith) c.requires.1
 
 pub returns : goal.returns
 returns c =
-    let s = c in
-    ap₂ ◌*◌ c.read_u32.ensures s.requires.0 ∙ sym (total_whole s.args.item.now (omega arith))
+    ap₂ ◌*◌ c.read_u32.ensures c.requires.0 ∙ sym (total_whole c.args.item.now (omega arith))

@@ -1,7 +1,7 @@
 -- `block_cases::scripts::write_item` meets its contract: the line of the last write fits its room.
 -- Assumes nothing.
 use native.Mathlib.Omega.{arith}
-use borrow.Author.Rules.{rules, elem_Fits}
+use borrow.Author.Rules.{elem_Fits}
 use mir.Syntax.{w8}
 use Rattle.text.proofs.Put.{put-inside}
 use Rattle.block_cases.proofs.Moves.{script_line}

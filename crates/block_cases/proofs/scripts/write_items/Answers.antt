@@ -1,9 +1,6 @@
 -- `block_cases::scripts::write_items` meets its contract: each turn makes the writes of one item more.
 -- Assumes nothing.
-use mathlib.Core.List.{List, [], ◌++◌}
-use borrow.Author.Rules.{rules}
-use Rattle.model.specs.Controller.{Write}
-use Rattle.block_cases.specs.Script.{Moved}
+use mathlib.Core.List.{[], ◌++◌}
 use Rattle.block_cases.proofs.Moves.{moved_none, moved_then}
 use Rattle.block_cases.proofs.scripts.write_items.Goals as goal
 

@@ -11,23 +11,20 @@ use Rattle.cap_cases.proofs.parts.check_parts.Goals as goal
 
 pub feed_times-middle-requires : goal.feed_times-middle-requires
 feed_times-middle-requires c =
-    let s = c in
-    let a = s.args in
-    watching_from _ _ _ _ _ (a.times * length a.labels.now) (omega (arith, times_fit a.times (length a.labels.now) 0 (omega (arith, s.well_formed)) s.requires.0 (omega arith))) c.begin-begun.ensures
+    let a = c.args in
+    watching_from _ _ _ _ _ (a.times * length a.labels.now) (omega (arith, times_fit a.times (length a.labels.now) 0 (omega (arith, c.well_formed)) c.requires.0 (omega arith))) c.begin-begun.ensures
 
 pub feed-end-requires : goal.feed-end-requires
 feed-end-requires c =
-    let s = c in
-    let a = s.args in
+    let a = c.args in
     let n = a.times * length a.labels.now + length a.others.now in
-    let fits = times_fit a.times (length a.labels.now) (length a.others.now) (omega (arith, s.well_formed)) s.requires.0 s.requires.1 in
+    let fits = times_fit a.times (length a.labels.now) (length a.others.now) (omega (arith, c.well_formed)) c.requires.0 c.requires.1 in
     watching_more _ _ _ (repeated a.times a.labels.now) n (length a.others.now) (omega (arith, repeated-length a.times a.labels.now)) c.feed_times-middle.ensures
     (watching_from _ _ _ _ _ n fits c.begin-begun.ensures)
 
 pub returns : goal.returns
 returns c =
-    let s = c in
-    let a = s.args in
+    let a = c.args in
     let labels = repeated a.times a.labels.now in
     checked _ _ _ _ _ _
     (feeds_parts _ _ _ _ labels a.others.now c.feed_times-middle.ensures c.feed-end.ensures a.plan.now a.slots a.work [] c.begin-begun.ensures)

@@ -6,13 +6,11 @@ use Rattle.certificate_cases.proofs.solves.write_solution.Goals as goal
 
 pub returns : goal.returns
 returns c =
-    let put = c in
-    let first = put in
-    let memory = enough first.args.plan.now put.large_buffer-work.ensures first.large_buffer-certificate.ensures in
+    let memory = enough c.args.plan.now c.large_buffer-work.ensures c.large_buffer-certificate.ensures in
     record {
-      before = first.large_buffer-certificate.result;
-      after = put.put_certificate-n.new.out;
-      size = put.put_certificate-n.result;
-      written = rw memory at put.put_certificate-n.ensures.puts;
+      before = c.large_buffer-certificate.result;
+      after = c.put_certificate-n.new.out;
+      size = c.put_certificate-n.result;
+      written = rw memory at c.put_certificate-n.ensures.puts;
       begins = c.write_comparison.ensures;
     }

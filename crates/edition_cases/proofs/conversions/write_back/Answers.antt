@@ -4,8 +4,12 @@ use mathlib.Core.Path.{ap, ◌∙◌}
 use lib.ListN.{length}
 use Rattle.model.specs.Calls.{Result}
 use Rattle.answer_text.specs.Finish.{result_line}
-use borrow.Author.Rules.{rules}
 use Rattle.edition_cases.proofs.conversions.write_back.Goals as goal
 
 pub returns : goal.returns
-returns c = let t = c.back-answer.ensures.converts.told in record { value = c.write_result.ensures ∙ ap (λ (r : Result). length (result_line r)) t.answer; out_after = t.output }
+returns c =
+    let t = c.back-answer.ensures.converts.told in
+    record {
+      value = c.write_result.ensures ∙ ap (λ (r : Result). length (result_line r)) t.answer;
+      out_after = t.output;
+    }

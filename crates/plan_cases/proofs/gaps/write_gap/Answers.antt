@@ -5,9 +5,12 @@ use lib.ListN.{length}
 use Rattle.model.specs.Calls.{Result}
 use Rattle.model.specs.Gap.{Group, in_group}
 use Rattle.answer_text.specs.Finish.{result_line}
-use borrow.Author.Rules.{rules}
 use Rattle.plan_cases.proofs.gaps.write_gap.Goals as goal
 
 pub returns : goal.returns
-returns c = let w = c in
-    let t = w.rewrite-answer.ensures.named _ (λ i. ap (λ (g : Group). in_group g i) w.named.ensures) in record { value = c.write_result.ensures ∙ ap (λ (r : Result). length (result_line r)) t.answer; out_after = t.output }
+returns c =
+    let t = c.rewrite-answer.ensures.named _ (λ i. ap (λ (g : Group). in_group g i) c.named.ensures) in
+    record {
+      value = c.write_result.ensures ∙ ap (λ (r : Result). length (result_line r)) t.answer;
+      out_after = t.output;
+    }

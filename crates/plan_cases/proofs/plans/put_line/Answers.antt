@@ -12,7 +12,6 @@ use Rattle.model.specs.Bytes.{Put}
 use Rattle.text.proofs.Put.{counted}
 use Rattle.text.proofs.Decimal.{refused-length, decimal-length}
 use Rattle.plan_cases.specs.Lines.{plan_line}
-use borrow.Author.Rules.{rules}
 use Rattle.plan_cases.proofs.plans.put_line.Goals as goal
 
 -- a line of the outcome is the line of the answer
@@ -27,11 +26,18 @@ put_refusal-requires c =
     omega (arith, refused-length n, decimal-length 19 n (omega arith))
 
 pub returns-in-Sound : goal.returns-in-Sound
-returns-in-Sound c = let b = c in
-    let t = b in
-    let p = b.put_bytes.ensures in record { put = as_line (plan_of t.read-read.result.plan) t.read-read.result.outcome t.read-read.ensures.1 t.in-Sound.is refl p; prefix_len = counted _ _ (omega (arith, p.next)) }
+returns-in-Sound c =
+    let r = c.read-read in
+    record {
+      put = as_line (plan_of r.result.plan) r.result.outcome r.ensures.1 c.in-Sound.is refl c.put_bytes.ensures;
+      prefix_len = counted _ _ (omega (arith, c.put_bytes.ensures.next));
+    }
 
 pub returns-in-Faulty : goal.returns-in-Faulty
-returns-in-Faulty c = let b = c in
-    let t = b in
-    let p = b.put_refusal.ensures in record { put = as_line (plan_of t.read-read.result.plan) t.read-read.result.outcome t.read-read.ensures.1 t.in-Faulty.is (ap refused_line (sym b.number.ensures)) p; prefix_len = counted _ _ (omega (arith, p.next, refused-length b.number.result, decimal-length 19 b.number.result (omega arith))) }
+returns-in-Faulty c =
+    let r = c.read-read in
+    let n = c.number.result in
+    record {
+      put = as_line (plan_of r.result.plan) r.result.outcome r.ensures.1 c.in-Faulty.is (ap refused_line (sym c.number.ensures)) c.put_refusal.ensures;
+      prefix_len = counted _ _ (omega (arith, c.put_refusal.ensures.next, refused-length n, decimal-length 19 n (omega arith)));
+    }
