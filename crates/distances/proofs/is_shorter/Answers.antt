@@ -9,11 +9,9 @@ use Rattle.distances.proofs.is_shorter.Goals as goal
 
 pub returns-then-link-eq-UNKNOWN : goal.returns-then-link-eq-UNKNOWN
 returns-then-link-eq-UNKNOWN c =
-    let a = c.args in
-    sym (ap (λ t. t || lt_z a.z a.link.distance) (eq-eqb _ _ c.if-link-eq-UNKNOWN.true))
+    sym (ap (λ t. t || lt_z c.args.z c.args.link.distance) (eq-eqb _ _ c.if-link-eq-UNKNOWN.true))
 
 pub returns : goal.returns
 returns c =
-    let s = c in
-    ap₂ lt_z (to_z-of_z {w = w64} s.ranges.z) (to_z-of_z {w = w64} (record { sfits = c.struct_told-1.given.0.1 }))
-    ∙ sym (ap (λ t. t || lt_z s.args.z s.args.link.distance) (ne_eqb _ _ c.if-link-eq-UNKNOWN.false))
+    ap₂ lt_z (to_z-of_z {w = w64} c.ranges.z) (to_z-of_z {w = w64} (record { sfits = c.struct_told-1.given.0.1 }))
+    ∙ sym (ap (λ t. t || lt_z c.args.z c.args.link.distance) (ne_eqb _ _ c.if-link-eq-UNKNOWN.false))

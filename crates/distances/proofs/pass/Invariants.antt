@@ -1,15 +1,11 @@
 -- `distances::pass` meets its contract: the nodes one after another. Assumes nothing.
-use mathlib.Core.Path.{◌≡◌, refl, ◌∙◌}
-use Prim.Native.Nat.{◌-◌, ◌<◌, ◌≤◌}
-use native.Mathlib.Omega.{arith}
+use mathlib.Core.Path.{◌≡◌}
+use Prim.Native.Nat.{◌-◌, ◌≤◌}
 use lib.ListN.{length}
-use Rattle.words.proofs.Free.{only_refl, only_trans}
 use Rattle.model.specs.Plan.{Plan}
 use Rattle.graph.specs.Outcomes.{NotesFree}
 use Rattle.distances.specs.Distances.{Sought}
-use Rattle.distances.proofs.Advances.{advance-circuit, sought-after}
-use Rattle.distances.proofs.Taken.{nodes-count}
-use Rattle.distances.proofs.Nodes.{TriedBelow, tried-none, tried-more, tried-all}
+use Rattle.distances.proofs.Nodes.{TriedBelow}
 use Rattle.distances.proofs.pass.Given as goal
 
 abbrev pub invariant-loop-u : goal.invariant-loop-u

@@ -8,12 +8,11 @@ use Rattle.solution.proofs.attained.Goals as goal
 
 pub gains-sums-requires : goal.gains-sums-requires
 gains-sums-requires c =
-    let s = c in
-    let g = s.requires.1 in
+    let g = c.requires.1 in
     let k = g.circling in (
-      s.requires.0,
+      c.requires.0,
       record {
-        room = s.requires.2;
+        room = c.requires.2;
         few = omega (arith, circling-few k, k.holds.rows.index.few);
         plan = g.plan;
         next = g.next;
@@ -22,7 +21,7 @@ gains-sums-requires c =
         edges = k.turned.circuit.edges;
         turns = circling-turns k;
       },
-      s.requires.3,
+      c.requires.3,
     )
 
 pub lowest-requires : goal.lowest-requires

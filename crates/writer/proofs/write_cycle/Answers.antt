@@ -1,6 +1,5 @@
 -- `writer::write_cycle` meets its contract: the first step's node, and then the steps. Assumes nothing.
 use mathlib.Core.Path.{◌≡◌, refl, sym, ap, ◌∙◌}
-use borrow.Author.Rules.{rules}
 use Prim.Native.Nat.{ℕ, ◌+◌, ◌*◌}
 use native.Mathlib.Omega.{arith}
 use mathlib.Core.List.{map}
@@ -16,32 +15,27 @@ use Rattle.writer.proofs.write_cycle.Goals as goal
 
 pub overflow_cast-first : goal.overflow_cast-first
 overflow_cast-first c =
-    let call = c in
-    let start = call in
-    let turns = start.requires.1.turns in
-    let node = ap (λ (s : Taken). s.node) call.step_at-first.ensures in
-    record { fits = omega (arith, node, turns.below 0 start.requires.2, turns.holds.rows.index.few) }
+    let turns = c.requires.1.turns in
+    let node = ap (λ (s : Taken). s.node) c.step_at-first.ensures in
+    record { fits = omega (arith, node, turns.below 0 c.requires.2, turns.holds.rows.index.few) }
 
 pub returns : goal.returns
-returns c = let call = c in
-    let head = call in
-    let step = head in
-    let start = step in
-    let a = start.args in record {
+returns c =
+    let a = c.args in record {
       value = refl;
       writes_cycle = λ P next n v es t.
-          let w = call.write_steps.ensures.writes P next n v es t in
+          let w = c.write_steps.ensures.writes P next n v es t in
           let node : _ ≡ v =
-          ap (λ (s : Taken). s.node) step.step_at-first.ensures ∙ sym (first-node a.m.now a.k start.requires.2 t.along) in
+          ap (λ (s : Taken). s.node) c.step_at-first.ensures ∙ sym (first-node a.m.now a.k c.requires.2 t.along) in
           record {
             edges = w.edges;
             along = w.along;
             bytes =
                 w.bytes
                 ∙ ap (λ x. overwrite x (a.at + cycle_size) (steps_bytes (map step_of w.edges)))
-                (head.write_cycle_head.ensures ∙ ap (λ (x : ℕ). overwrite a.out.now a.at (node_bytes x)) node)
+                (c.write_cycle_head.ensures ∙ ap (λ (x : ℕ). overwrite a.out.now a.at (node_bytes x)) node)
                 ∙ cycle-written a.out.now a.at v w.edges
-                (omega (arith, ap (λ (x : ℕ). step_size * x) (edges-count a.m.now a.k w.along), start.requires.4));
+                (omega (arith, ap (λ (x : ℕ). step_size * x) (edges-count a.m.now a.k w.along), c.requires.4));
           };
-      notes_free = call.write_steps.ensures.notes_free;
+      notes_free = c.write_steps.ensures.notes_free;
     }

@@ -1,18 +1,10 @@
 -- `writer::write_potentials` meets its contract: one potential after another. Assumes nothing.
-use mathlib.Core.Path.{◌≡◌, refl, sym, ap, ◌∙◌}
-use Prim.Native.Nat.{ℕ, ◌+◌, ◌-◌, ◌*◌, ◌≤◌}
-use native.Mathlib.Omega.{arith}
+use mathlib.Core.Path.{◌≡◌}
+use Prim.Native.Nat.{◌-◌, ◌≤◌}
 use lib.ListN.{length}
-use mir.Syntax.{w64}
-use mir.Facts.{to_z-of_z}
 use Rattle.model.specs.Bytes.{overwrite}
-use Rattle.words.proofs.Memory.{overwrite-none}
-use Rattle.theory.proofs.Form.{potential_bytes}
-use Rattle.certificate.specs.View.{head_size, potential_size}
-use Rattle.links.specs.Links.{link_in}
-use Rattle.links.specs.declared.Link.{Link}
+use Rattle.certificate.specs.View.{head_size}
 use Rattle.writer.specs.Writer.{distances_in, potentials_bytes}
-use Rattle.writer.proofs.Bytes.{potentials-more}
 use Rattle.writer.proofs.write_potentials.Given as goal
 
 abbrev pub invariant-loop-i : goal.invariant-loop-i
