@@ -1,5 +1,4 @@
 -- `cases::main` is safe and ends: each turn leaves one case less. Assumes nothing.
-use borrow.Author.Rules.{rules}
 use Rattle.cases.proofs.main.Given as goal
 
 abbrev pub invariant-loop-left : goal.invariant-loop-left

@@ -6,7 +6,6 @@ use Prim.Native.Nat.{ℕ}
 use Rattle.plan_cases.specs.Kinds.{is_plan_kind}
 use Rattle.edition_cases.specs.Kinds.{is_edition_kind}
 use Rattle.certificate_cases.specs.Kinds.{is_certificate_kind}
-use borrow.Author.Rules.{rules}
 use Rattle.cases.proofs.run.Goals as goal
 
 -- by what the three answer

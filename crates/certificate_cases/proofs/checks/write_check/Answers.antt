@@ -3,7 +3,6 @@ use mathlib.Core.Path.{sym, ◌∙◌, ap}
 use Prim.Native.Nat.{ℕ}
 use native.Mathlib.Nat.{zero-add}
 use lib.ListN.{length}
-use borrow.Author.Rules.{rules}
 use Rattle.model.specs.Check.{check}
 use Rattle.model.specs.Text.{check_text}
 use Rattle.certificate_cases.proofs.checks.write_check.Goals as goal

@@ -1,6 +1,5 @@
 -- `certificate_cases::solves::write_solution` meets its contract: the lent memory is enough, and what is written is compared with the head.
 -- Assumes nothing.
-use borrow.Author.Rules.{rules}
 use Rattle.solve_text.proofs.Answers.{enough}
 use Rattle.certificate_cases.proofs.solves.write_solution.Goals as goal
 
