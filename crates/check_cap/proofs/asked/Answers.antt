@@ -3,7 +3,6 @@
 use mathlib.Core.Path.{refl, ◌∙◌}
 use mathlib.Core.List.{[], ◌∷◌}
 use Rattle.check_cap.specs.Commands.{counted_is}
-use borrow.Author.Rules.{rules}
 use Rattle.check_cap.proofs.asked.Goals as goal
 
 pub returns-then-argument_count-ne3 : goal.returns-then-argument_count-ne3

@@ -4,7 +4,6 @@ use mathlib.Core.List.{[]}
 use native.Mathlib.Omega.{arith}
 use lib.ListN.{take}
 use Rattle.cap.proofs.Answers.{watching_from, checked}
-use borrow.Author.Rules.{rules}
 use Rattle.check_cap.proofs.check.Goals as goal
 
 pub feed_parts-watch-requires : goal.feed_parts-watch-requires

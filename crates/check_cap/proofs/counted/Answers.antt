@@ -2,7 +2,6 @@
 -- Assumes nothing.
 use mathlib.Core.Path.{sym}
 use Rattle.check_cap.specs.Commands.{counted_is}
-use borrow.Author.Rules.{rules}
 use Rattle.check_cap.proofs.counted.Goals as goal
 
 pub returns : goal.returns

@@ -5,7 +5,6 @@ use native.Mathlib.Omega.{arith}
 use lib.ListN.{take}
 use Rattle.cap.proofs.Answers.{feeds_none, watching_more}
 use Rattle.check_cap.specs.Commands.{part_bytes}
-use borrow.Author.Rules.{rules}
 use Rattle.check_cap.proofs.feed_part.Goals as goal
 
 pub feed-watch-requires : goal.feed-watch-requires

@@ -1,16 +1,11 @@
 -- `check_cap::feed_parts` meets its contract: the parts so far are one list of labels, and the next one goes behind it.
 -- Assumes nothing.
-use mathlib.Core.List.{List, [], ◌++◌}
-use Prim.Native.Nat.{ℕ, ◌+◌, ◌-◌, ◌*◌, ◌≤◌}
+use mathlib.Core.List.{[], ◌++◌}
+use Prim.Native.Nat.{◌+◌, ◌-◌, ◌*◌, ◌≤◌}
 use native.Mathlib.Omega.{arith}
-use Rattle.cap.specs.View.{Watching, Feeds}
-use Rattle.cap.specs.declared.Cap.{Cap}
-use Rattle.cap.specs.declared.Watch.{Watch}
 use Rattle.cap.proofs.Answers.{feeds_none, feeds_parts, watching_more}
-use borrow.Author.Rules.{rules}
 use lib.ListN.{length}
 use Rattle.check_cap.specs.Commands.{part_bytes}
-use Rattle.check_cap.proofs.feed_parts.Invariants.{Through}
 use Rattle.check_cap.proofs.feed_parts.Goals as goal
 
 pub loop-parts-init : goal.loop-parts-init

@@ -7,7 +7,6 @@ use borrow.Author.Tests.{eq-eqb, ne_eqb}
 use Rattle.cap.specs.declared.Answer.{Answer}
 use Rattle.cap.specs.declared.Answer.TheVariants.{Refused, Over, Kept}
 use Rattle.check_cap.specs.Commands.{part_bytes, goes_on}
-use borrow.Author.Rules.{rules}
 use Rattle.check_cap.proofs.goes_on.Goals as goal
 
 not_full : (a : Answer) (count : ℕ) → (count ≡ part_bytes → ⊥) → goes_on a count ≡ false

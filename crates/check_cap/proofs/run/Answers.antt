@@ -4,7 +4,6 @@ use mathlib.Core.Path.{◌≡◌, sym, subst}
 use Prim.Native.Nat.{ℕ}
 use Rattle.check_cap.specs.Commands.{Runs}
 use Rattle.check_cap.specs.declared.Command.{Command}
-use borrow.Author.Rules.{rules}
 use Rattle.check_cap.proofs.run.Goals as goal
 
 -- what a command is found to be decides

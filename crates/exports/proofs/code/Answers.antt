@@ -7,7 +7,6 @@ use Rattle.refusals.specs.declared.Answer.{Answer}
 use Rattle.refusals.specs.Told.{result_by}
 use Rattle.refusals.proofs.Small.{refusal_small}
 use Rattle.exports.specs.Codes.{code_of}
-use borrow.Author.Rules.{rules}
 use Rattle.exports.proofs.code.Goals as goal
 
 -- the number of an answer that a match has told

@@ -12,7 +12,6 @@ use Rattle.refusals.specs.Told.{result_by}
 use Rattle.convert.specs.Promise.{SendsBack}
 use Rattle.exports.specs.Codes.{code_of, BackAs}
 use Rattle.exports.proofs.Codes.{due_by_number, converts_as}
-use borrow.Author.Rules.{rules}
 use Rattle.exports.proofs.jovnetal_back.Goals as goal
 
 back_as : (plan out out' : List ℕ) (a : Answer) (r : ℕ) → SendsBack plan out out' a → r ≡ code_of (result_by a) → BackAs plan out out' r

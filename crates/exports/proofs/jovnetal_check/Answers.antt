@@ -4,7 +4,6 @@ use mathlib.Core.Path.{sym, ap, ◌∙◌}
 use Rattle.model.specs.Check.{CheckAnswer}
 use Rattle.checker.specs.Promise.{answer_of}
 use Rattle.exports.specs.Codes.{check_code, numbers_after}
-use borrow.Author.Rules.{rules}
 use Rattle.exports.proofs.jovnetal_check.Goals as goal
 
 pub returns-in-Refused : goal.returns-in-Refused

@@ -13,7 +13,6 @@ use Rattle.refusals.specs.Told.{result_by}
 use Rattle.combine.specs.Promise.{Combines}
 use Rattle.exports.specs.Codes.{code_of, CombinesAs}
 use Rattle.exports.proofs.Codes.{by_number, tells_as, due_by_number}
-use borrow.Author.Rules.{rules}
 use Rattle.exports.proofs.jovnetal_combine.Goals as goal
 
 combines-as : (first second out out' : List ℕ) (a : Answer) (r : ℕ) → Combines first second out out' a → r ≡ code_of (result_by a) →

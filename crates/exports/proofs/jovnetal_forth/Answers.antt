@@ -10,7 +10,6 @@ use Rattle.refusals.specs.Told.{result_by}
 use Rattle.convert.specs.Promise.{SendsForth}
 use Rattle.exports.specs.Codes.{code_of, ForthAs}
 use Rattle.exports.proofs.Codes.{by_number, converts_as}
-use borrow.Author.Rules.{rules}
 use Rattle.exports.proofs.jovnetal_forth.Goals as goal
 
 forth-as : (plan out out' : List ℕ) (a : Answer) (r : ℕ) → SendsForth plan out out' a → r ≡ code_of (result_by a) → ForthAs plan out out' r

@@ -1,7 +1,6 @@
 -- `exports::jovnetal_gap` meets its contract: the number of what the gap call told; bytes were written where it is small.
 -- Assumes nothing.
 use Rattle.exports.proofs.Codes.{rewrites_as}
-use borrow.Author.Rules.{rules}
 use Rattle.exports.proofs.jovnetal_gap.Goals as goal
 
 pub returns : goal.returns

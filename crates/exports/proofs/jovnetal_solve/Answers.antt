@@ -8,7 +8,6 @@ use Rattle.solver.specs.declared.Answer.{Answer}
 use Rattle.solver.specs.Promise.{Solves}
 use Rattle.exports.specs.Codes.{solve_code, passes_after, SolvesAs}
 use Rattle.refusals.proofs.Small.{refusal_small}
-use borrow.Author.Rules.{rules}
 use Rattle.exports.proofs.jovnetal_solve.Goals as goal
 
 -- the answer that a match has told

@@ -9,7 +9,6 @@ use Rattle.refusals.specs.Told.{result_by}
 use Rattle.tracer.specs.Promise.{Traces}
 use Rattle.exports.specs.Codes.{code_of, TracesAs}
 use Rattle.exports.proofs.Codes.{by_number, tells_as}
-use borrow.Author.Rules.{rules}
 use Rattle.exports.proofs.jovnetal_trace.Goals as goal
 
 traces-as : (plan labels out out' : List ℕ) (a : Answer) (r : ℕ) → Traces plan labels out out' a → r ≡ code_of (result_by a) → TracesAs plan labels out out' r

@@ -11,7 +11,6 @@ use Rattle.refusals.specs.Told.{result_by}
 use Rattle.widen.specs.Promise.{Widens}
 use Rattle.exports.specs.Codes.{code_of, WidenedAs}
 use Rattle.exports.proofs.Codes.{by_number, tells_as}
-use borrow.Author.Rules.{rules}
 use Rattle.exports.proofs.jovnetal_widen.Goals as goal
 
 widened-as : (certificate out out' : List ℕ) (a : Answer) (r : ℕ) → Widens certificate out out' a → r ≡ code_of (result_by a) → WidenedAs certificate out out' r

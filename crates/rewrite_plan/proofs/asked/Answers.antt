@@ -3,7 +3,6 @@
 use mathlib.Core.Path.{refl, ap, ◌∙◌}
 use mathlib.Core.List.{[], ◌∷◌}
 use Rattle.rewrite_plan.specs.Commands.{alone_is, counted_is}
-use borrow.Author.Rules.{rules}
 use Rattle.rewrite_plan.proofs.asked.Goals as goal
 
 pub returns-then-count-eq2 : goal.returns-then-count-eq2

@@ -2,7 +2,6 @@
 -- Assumes nothing.
 use mathlib.Core.Path.{sym, ◌∙◌}
 use Rattle.rewrite_plan.specs.Commands.{counted_is}
-use borrow.Author.Rules.{rules}
 use Rattle.rewrite_plan.proofs.counted.Goals as goal
 
 pub returns : goal.returns

@@ -4,7 +4,6 @@ use mathlib.Core.Path.{◌≡◌, sym, subst}
 use Prim.Native.Nat.{ℕ}
 use Rattle.rewrite_plan.specs.Commands.{Runs}
 use Rattle.rewrite_plan.specs.declared.Command.{Command}
-use borrow.Author.Rules.{rules}
 use Rattle.rewrite_plan.proofs.run.Goals as goal
 
 -- what a command is found to be decides

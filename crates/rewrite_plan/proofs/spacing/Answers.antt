@@ -4,7 +4,6 @@ use mathlib.Core.Path.{◌≡◌, sym, ap}
 use Prim.Native.Nat.{ℕ}
 use Rattle.rewrite_plan.specs.Commands.{spacing_is}
 use Rattle.rewrite_plan.specs.declared.Word.{Word}
-use borrow.Author.Rules.{rules}
 use Rattle.rewrite_plan.proofs.spacing.Goals as goal
 
 -- what a word is found to be decides

@@ -8,7 +8,6 @@ use Rattle.model.specs.Lists.{same_numbers}
 use Rattle.model.proofs.Tests.{same_decided, same_numbers_lem}
 use Rattle.rewrite_plan.specs.Commands.{gap_word, group_word, combine_word, forth_word, back_word, word_in}
 use Rattle.rewrite_plan.specs.declared.Word.TheVariants as word
-use borrow.Author.Rules.{rules}
 use Rattle.rewrite_plan.proofs.word_in.Goals as goal
 
 -- whether two lists are the same, as it is told

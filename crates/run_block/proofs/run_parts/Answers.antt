@@ -1,16 +1,11 @@
 -- `run_block::run_parts` meets its contract: the parts so far are full, so with the next one they are the writes from the first on.
 -- Assumes nothing.
 use mathlib.Core.Path.{◌≡◌, refl}
-use mathlib.Core.List.{List, [], ◌++◌}
-use Prim.Native.Nat.{ℕ, ◌%◌}
+use mathlib.Core.List.{[], ◌++◌}
 use native.Mathlib.Omega.{arith}
-use borrow.Author.Rules.{rules}
 use lib.ListN.{length, length-append}
-use Rattle.policy.specs.declared.Rules.{Rules}
-use Rattle.controller.specs.declared.Block.{Block}
 use Rattle.block_text.specs.Lines.{part_bytes}
-use Rattle.block_text.proofs.Parts.{RunsTo, runs_none, runs_parts}
-use Rattle.run_block.proofs.run_parts.Invariants.{Through}
+use Rattle.block_text.proofs.Parts.{runs_none, runs_parts}
 use Rattle.run_block.proofs.run_parts.Goals as goal
 
 pub loop-turns-init : goal.loop-turns-init
