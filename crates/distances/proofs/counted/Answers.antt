@@ -1,5 +1,4 @@
 -- `distances::counted` meets its contract: its test is the definition's. Assumes nothing.
-use borrow.Author.Rules.{rules}
 use borrow.Author.Tests.{lt-ltb, le-ltb}
 use Rattle.distances.proofs.counted.Goals as goal
 

@@ -1,10 +1,10 @@
 -- `distances::relax` meets its contract: a distance is kept, or a smaller one stored, or a circuit closed.
 -- Assumes nothing.
-use mathlib.Core.Path.{◌≡◌, sym, ◌∙◌, ap₂, subst}
+use mathlib.Core.Path.{sym, ◌∙◌, ap₂, subst}
 use mir.Syntax.{w64}
 use mir.Facts.{to_z-of_z}
 use native.Mathlib.Omega.{arith}
-use Rattle.links.specs.Links.{waiting, Puts, WayUp}
+use Rattle.links.specs.Links.{waiting, Puts}
 use Rattle.links.proofs.Climb.{climbs_short}
 use Rattle.distances.proofs.Relaxed.{shorter, offer_climbs, relax_keeps, relax_moves, relax_closes}
 use Rattle.distances.proofs.relax.Goals as goal

@@ -15,7 +15,7 @@ invariant-loop-found l =
     let i = l.initial in
     (length l.notes ≡ length i.notes) × NotesFree i.notes l.notes × Only links_at (links_size + steps_size) i.m l.m
     × ((P : Plan) → Aimed P l.rules l.next i.m l.n (solution_at i.p i.q i.steps i.found) i.found.steps →
-      Aimed P l.rules l.next l.m l.n (solution_at l.p l.q l.steps l.found) l.found.steps)
+    Aimed P l.rules l.next l.m l.n (solution_at l.p l.q l.steps l.found) l.found.steps)
 
 abbrev pub decreases-loop-found : goal.decreases-loop-found
 decreases-loop-found l = fraction_left l.p l.q

@@ -62,8 +62,7 @@ pub write_end-requires-2 : goal.write_end-requires-2
 write_end-requires-2 c =
     let h = c.requires.1.solvable.solving in
     let some : 0 < c.args.solution.q = omega (arith, c.if-q-eq0.false) in
-    omega
-    (
+    omega (
       arith,
       c.write_cycle-end.ensures.value,
       count-few h,
