@@ -16,9 +16,6 @@ pub returns-then-not-is_shorter : goal.returns-then-not-is_shorter
 returns-then-not-is_shorter c P prices o =
     relax_keeps o (sym (c.is_shorter.ensures ∙ ap₂ shorter c.link_to.ensures (to_z-of_z {w = w64} c.ranges.z)) ∙ c.if-not-is_shorter.true)
 
-pub way_up-requires : goal.way_up-requires
-way_up-requires c = offer_climbs c.requires.offer
-
 pub put_link-requires : goal.put_link-requires
 put_link-requires c = let o = c.requires.offer in (omega (arith, o.to, o.few), o.room, omega (arith, o.from, o.few))
 

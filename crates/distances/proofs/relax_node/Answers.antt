@@ -48,16 +48,6 @@ node_of-node-requires c =
     ap length c.row-row.ensures
     ∙ part_length c.args.m.now (row_bytes * c.args.u) row_bytes (omega (arith, c.requires.2, index.few, index.room))
 
-pub overflow_cast-labels : goal.overflow_cast-labels
-overflow_cast-labels c =
-    let rules = c.requires.0 in
-    record { fits = omega (arith, rules.size, rules.tasks.count) }
-
-pub overflow_shl-labels : goal.overflow_shl-labels
-overflow_shl-labels c =
-    let rules = c.requires.0 in
-    omega (arith, rules.size, rules.tasks.count)
-
 pub loop-label-init : goal.loop-label-init
 loop-label-init c = (omega arith, refl, refl, λ P s. below_none s.search, only_refl)
 

@@ -71,9 +71,6 @@ number c =
     c.find-v.ensures ∙ ap (index_in (rows_in a.m.now a.prices.n))
     (c.row_of-row.ensures ∙ ap (λ (p : ℕ). row_of (with_pattern a.out.cells a.out.state p)) c.noted_pattern-taken.ensures.0)
 
-pub noted_pattern-taken-requires : goal.noted_pattern-taken-requires
-noted_pattern-taken-requires c = (c.requires.0.offers.readable, c.requires.1)
-
 pub best_score-gain-requires : goal.best_score-gain-requires
 best_score-gain-requires c = let o = c.requires.0.offers in (o.readable.room, omega (arith, c.noted_pattern-taken.ensures.1))
 
@@ -82,9 +79,6 @@ overflow_sub-gain c =
     let a = c.args in
     let read = c.best_score-gain.ensures a.out.count ∙ ap (score_in a.notes.now a.out.count) c.noted_pattern-taken.ensures.0 in
     omega (arith, read, c.requires.0.offers.noted a.k c.requires.1)
-
-pub times-requires : goal.times-requires
-times-requires c = let o = c.requires.0.offers in omega (arith, o.fits_p)
 
 pub overflow_sub-z : goal.overflow_sub-z
 overflow_sub-z c = fits c

@@ -18,9 +18,6 @@ use Rattle.distances.proofs.relax_outcomes.Goals.{After-struct_told-1}
 pub link_to-from-requires : goal.link_to-from-requires
 link_to-from-requires c = let o = c.requires.offers in (omega (arith, o.from, o.few), o.room)
 
-pub times-requires : goal.times-requires
-times-requires c = c.requires.offers.fits_q
-
 -- the distance with the policy's weight, before it is stored
 sum : (c : After-struct_told-1) →
     let a = c.args in

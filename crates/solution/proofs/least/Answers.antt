@@ -94,9 +94,6 @@ loop-found-preserved c =
           (call.ensures.settles P (record { planned = a.planned; holds = a.holds; fraction = f.fraction; room = room })),
     )
 
-pub shape_of-m : goal.shape_of-m
-shape_of-m c = c.loop-found.invariant.2.long ∙ c.settle-found.auto.m
-
 pub returns : goal.returns
 returns c =
     let l = c.loop-found in

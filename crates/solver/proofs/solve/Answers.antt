@@ -12,9 +12,6 @@ returns-then-work-lt-WORK_ROOM c = let a = c.args in short-work a.plan.now a.wor
 pub returns-then-out-lt-CERTIFICATE_ROOM : goal.returns-then-out-lt-CERTIFICATE_ROOM
 returns-then-out-lt-CERTIFICATE_ROOM c = let a = c.args in short-out a.plan.now a.work.now a.out.now c.if-work-lt-WORK_ROOM.false c.if-out-lt-CERTIFICATE_ROOM.true
 
-pub solve_bytes-answer-requires : goal.solve_bytes-answer-requires
-solve_bytes-answer-requires c = (c.if-work-lt-WORK_ROOM.false, c.if-out-lt-CERTIFICATE_ROOM.false)
-
 pub returns : goal.returns
 returns c =
     let call = c.solve_bytes-answer in

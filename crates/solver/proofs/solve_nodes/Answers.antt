@@ -6,9 +6,6 @@ use Rattle.words.proofs.Free.{only_trans}
 use Rattle.solver.specs.declared.Answer.TheVariants.{Written}
 use Rattle.solver.proofs.solve_nodes.Goals as goal
 
-pub least-solution-requires : goal.least-solution-requires
-least-solution-requires c = (c.requires.0, c.requires.1, c.requires.2, c.requires.3)
-
 pub write-bytes-requires : goal.write-bytes-requires
 write-bytes-requires c =
     let h = c.requires.1 in

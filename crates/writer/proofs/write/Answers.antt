@@ -14,9 +14,6 @@ use Rattle.writer.proofs.write.Goals as goal
 pub overflow_cast-n : goal.overflow_cast-n
 overflow_cast-n c = record { fits = omega (arith, count-few c.requires.1.solvable.solving) }
 
-pub write_head-requires : goal.write_head-requires
-write_head-requires c = omega (arith, c.requires.4)
-
 pub write_potentials-requires : goal.write_potentials-requires
 write_potentials-requires c =
     let few = count-few c.requires.1.solvable.solving in
@@ -34,9 +31,6 @@ write_end-requires c =
 
 pub overflow_add-result : goal.overflow_add-result
 overflow_add-result c = record { fits = omega (arith, count-few c.requires.1.solvable.solving) }
-
-pub shape_of-out-then-q-eq0 : goal.shape_of-out-then-q-eq0
-shape_of-out-then-q-eq0 c = c.write_end.auto.out ∙ c.write_potentials.auto.out ∙ c.write_head.auto.out
 
 pub returns-then-q-eq0 : goal.returns-then-q-eq0
 returns-then-q-eq0 c =
@@ -78,9 +72,6 @@ overflow_add-result-2 c =
     let h = c.requires.1.solvable.solving in
     let some : 0 < c.args.solution.q = omega (arith, c.if-q-eq0.false) in
     record { fits = omega (arith, c.write_cycle-end.ensures.value, count-few h, steps-few h some) }
-
-pub shape_of-out : goal.shape_of-out
-shape_of-out c = c.write_end-2.auto.out ∙ c.write_cycle-end.auto.out ∙ c.write_potentials.auto.out ∙ c.write_head.auto.out
 
 pub returns : goal.returns
 returns c =

@@ -20,12 +20,6 @@ loop-i-init c = (omega arith, refl, sym (overwrite-none _ head_size))
 pub link_to-link-requires : goal.link_to-link-requires
 link_to-link-requires c = (omega (arith, c.loop-i-test.true, c.requires.0), c.requires.1)
 
-pub write_potential-requires : goal.write_potential-requires
-write_potential-requires c = omega (arith, c.loop-i-test.true, c.loop-i.invariant.1, c.requires.2)
-
-pub overflow_add-i : goal.overflow_add-i
-overflow_add-i c = record { fits = omega (arith, c.loop-i-test.true, c.requires.0) }
-
 pub loop-i-preserved : goal.loop-i-preserved
 loop-i-preserved c =
     let write = c.write_potential in
