@@ -1,7 +1,7 @@
 // Writes whether the run of labels.bin kept to a cap for the plan of plan.bin, at most WORK units of work in any SLOTS slots in a row: the number
 // of the first slot that exceeds it, `kept`, or `refused n`. The arguments are SLOTS and WORK; with others a line on standard error says so, and
 // nothing is written. A file that cannot be opened reads as empty. What plan.bin holds past this buffer changes no answer (theory:
-// long-plan). labels.bin may have any size: it is read in parts, which changes no answer (cap: feeds-parts), up to the one that tells it.
+// long-plan). labels.bin may have any size: it is read in parts, which changes no answer (cap: feeds_parts), up to the one that tells it.
 #![tactic(auto)]
 
 ghost use Rattle.std.specs.Prelude.{◌≡◌, List, ℕ, ◌*◌, ◌≤◌, length};

@@ -131,7 +131,7 @@ key-low policy k w l hw hl = go (eqb policy edf) (eqb policy srt) (eqb policy fi
 left-low : (ts : Tasks) → TasksInRange ts → (k : ℕ) → left_in ts k ≤ max_window
 left-low ts r k = omega (arith, window-low ts r (k % max_tasks))
 
--- the job of the cell at, none from slotCells on
+-- the job of the cell at, none from `slot_cells` on
 abbrev pub choice_in : Tasks → List ℕ → ℕ → Option Job
 choice_in ts cells at = cond (ltb at slot_cells) (some (job_in ts at (get_or cells at 0))) none
 

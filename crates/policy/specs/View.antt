@@ -99,7 +99,7 @@ key_in policy k work left =
     (cond (eqb policy fifo) (key_number (max_window - age_in k) (task_in k) 0)
     (key_number 0 (task_in k) left)))
 
--- a key with its cell, which is below places; noCode where there is no job
+-- a key with its cell, which is below places; `no_code` where there is no job
 abbrev pub places : ℕ
 places = 64
 
@@ -112,16 +112,16 @@ code_in policy k work left = cond (eqb work 0) no_code (key_in policy k work lef
 abbrev pub code_at : ℕ → List ℕ → List ℕ → ℕ → ℕ
 code_at policy cells left k = code_in policy k (get_or cells k 0) (get_or left k 0)
 
--- the least of f 0 to f (n − 1), noCode where there is none
+-- the least of f 0 to f (n − 1), `no_code` where there is none
 unfoldable pub least_code : (ℕ → ℕ) → ℕ → ℕ
 least_code f zero = no_code
 least_code f (suc n) = cond (ltb (f n) (least_code f n)) (f n) (least_code f n)
 
--- the cell of a code, slotCells of noCode
+-- the cell of a code, `slot_cells` of `no_code`
 abbrev pub cell_of : ℕ → ℕ
 cell_of code = cond (eqb code no_code) slot_cells (code % places)
 
--- 3. "the first by the policy's key": the cell of the least code, slotCells where there is no job.
+-- 3. "the first by the policy's key": the cell of the least code, `slot_cells` where there is no job.
 unfoldable pub first_cell : ℕ → List ℕ → List ℕ → ℕ
 first_cell policy cells left = cell_of (least_code (code_at policy cells left) slot_cells)
 
@@ -155,7 +155,7 @@ staying_in cells left k = cond (ltb 1 (get_or left k 0)) (get_or cells k 0) 0
 unfoldable pub aged : List ℕ → List ℕ → List ℕ
 aged cells left = map (staying_in cells left) (up_from max_tasks cell_count)
 
--- the number of the task whose job is in the cell k, 0 from slotCells on
+-- the number of the task whose job is in the cell k, 0 from `slot_cells` on
 abbrev pub task_number : ℕ → ℕ
 task_number k = cond (ltb k slot_cells) (task_in k) 0
 
@@ -187,7 +187,7 @@ pub record RulesOf (p : Plan) (r : Rules) : Type 0 where
   pub tasks : tasks_in r ≡ tasks_of p.tasks p.count
   pub policy : r.policy ≡ p.policy
 
--- which job ran in the cell k, by its slots left after the slot; none from slotCells on
+-- which job ran in the cell k, by its slots left after the slot; none from `slot_cells` on
 abbrev pub ran_in : Tasks → ℕ → Option JobId
 ran_in ts k = cond (ltb k slot_cells) (some (record { task = task_in k; left = left_in ts k - 1 })) none
 

@@ -1,7 +1,7 @@
 // Reads plan.bin and writes.bin, two bytes a write, the number of a register byte and a value, and writes a line for each write: its
 // refusal or 0, then the sixteen registers. A plan with a fault gets the line `refused n`. A file that cannot be opened reads as empty. What
 // plan.bin holds past this buffer changes no answer (theory: long-plan). writes.bin may have any size: it is read in parts, which changes no
-// line (block_text: lines-parts). A last byte that has no value is no write.
+// line (block_text: lines_parts). A last byte that has no value is no write.
 #![tactic(auto)]
 
 ghost use Rattle.std.specs.Prelude.{◌≡◌, List, ℕ, length};

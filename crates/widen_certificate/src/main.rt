@@ -1,5 +1,5 @@
 // Reads cert.bin, a certificate of the first edition, and writes its bytes in the long-read edition, each mask in two bytes, or `refused 6`. A
-// file that cannot be opened reads as empty. What it holds past this buffer changes no answer (theory: long-certificate-in).
+// file that cannot be opened reads as empty. What it holds past this buffer changes no answer (theory: long-certificate_in).
 #![tactic(auto)]
 
 ghost use Rattle.std.specs.Prelude.{◌≡◌, List, ℕ, ◌≤◌, length};
