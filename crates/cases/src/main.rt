@@ -8,6 +8,7 @@ ghost use Rattle.edition_cases.specs.Kinds.{is_edition_kind};
 ghost use Rattle.certificate_cases.specs.Kinds.{is_certificate_kind};
 
 use host::STDOUT;
+use std::fs::File;
 
 // Runs the next case of the file if its kind is known, and answers whether it is.
 fn run(kind: u8, file: i32) -> bool
@@ -24,7 +25,7 @@ fn run(kind: u8, file: i32) -> bool
 
 fn main(rt: HostRuntime) {
     let mut count = [0u8; 2];
-    let cases = host::open_read(&rt, "cases.bin");
+    let cases = File::open(&rt, "cases.bin").ok();
     let file = host::descriptor(&cases);
     io::read_full(file, &mut count);
     let mut left = words::read_u16(&count, 0);

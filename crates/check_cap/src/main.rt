@@ -87,7 +87,7 @@ fn check<R: Files<File = File>>(rt: &R, slots: u64, work: u64) -> Answer
     let length = host::read_file(rt, "plan.bin", &mut plan);
     let begun = cap::begin(&plan[..length], slots, work);
     let cap = begun.cap;
-    let labels = host::open_read(rt, "labels.bin");
+    let labels = File::open(rt, "labels.bin").ok();
     let watch = feed_parts(host::descriptor(&labels), cap, begun.watch);
     watch.answer
 }
@@ -109,7 +109,7 @@ fn counted(slots: Number, work: Number) -> Command
 fn asked<E: Env>(rt: &E) -> Command
     ensures { (arguments : List (List ℕ)) × (result ≡ command_is arguments) }
 {
-    if host::argument_count(rt) != 3 {
+    if host::argument_count(rt, 4) != 3 {
         return Command::Unknown;
     }
     counted(arguments::number_at(rt, 1), arguments::number_at(rt, 2))

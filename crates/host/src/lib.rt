@@ -1,6 +1,8 @@
 // What the programs ask of the system: files to read, and their arguments.
 #![tactic(auto)]
 
+ghost use Rattle.std.specs.Prelude.{◌≡◌, ◌≤◌, MatchOption, neg_ℤ, pos};
+ghost use Rattle.std.specs.Fd.{file_raw_fd};
 ghost use Rattle.io.specs.Counts.{IsPrefixLen};
 
 use std::env::{Env, FillError};
@@ -13,13 +15,10 @@ pub const STDOUT: i32 = 1;
 
 pub const STDERR: i32 = 2;
 
-// Opens a file to be read, or answers none where that fails.
-pub fn open_read<R: Files<File = File>>(rt: &R, path: &str) -> Option<File> {
-    File::open(rt, path).ok()
-}
-
 // The descriptor to read a file by; without a file one from which nothing is read.
-pub fn descriptor(file: &Option<File>) -> i32 {
+pub fn descriptor(file: &Option<File>) -> i32
+    ensures { MatchOption file.now (result ≡ neg_ℤ (pos 1)) (λ opened. result ≡ file_raw_fd opened) }
+{
     match file {
         Some(opened) => opened.as_raw_fd(),
         None => -1,
@@ -30,7 +29,7 @@ pub fn descriptor(file: &Option<File>) -> i32 {
 pub fn read_file<R: Files<File = File>>(rt: &R, path: &str, buf: &mut [u8]) -> usize
     ensures { IsPrefixLen result buf.new }
 {
-    let file = open_read(rt, path);
+    let file = File::open(rt, path).ok();
     io::read_full(descriptor(&file), buf)
 }
 
@@ -44,13 +43,15 @@ pub fn argument<E: Env>(rt: &E, i: usize, buf: &mut [u8]) -> usize
     }
 }
 
-// How many arguments the program was started with, its own name among them.
-pub fn argument_count<E: Env>(rt: &E) -> usize {
+// How many arguments the program was started with, its own name among them, as far as there are at most so many.
+pub fn argument_count<E: Env>(rt: &E, most: usize) -> usize
+    ensures { result ≤ most }
+{
     let mut buf = [0u8; 1];
-    for i in 0..usize::MAX {
+    for i in 0..most {
         if let Err(FillError::NotPresent) = rt.arg(i, &mut buf) {
             return i;
         }
     }
-    usize::MAX
+    most
 }

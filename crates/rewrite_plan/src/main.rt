@@ -206,7 +206,7 @@ fn counted(word: Word, number: Number, slots: Number) -> Command
 fn asked<E: Env>(rt: &E) -> Command
     ensures { (arguments : List (List ℕ)) × (result ≡ command_is arguments) }
 {
-    let count = host::argument_count(rt);
+    let count = host::argument_count(rt, 5);
     if count == 2 {
         return alone(word_at(rt, 1));
     }
