@@ -1,108 +1,48 @@
--- The limit of a potential, and the smallest one. Assumes nothing.
-use mathlib.Core.Path.{◌≡◌, refl, sym, ap, ◌∙◌}
-use mathlib.Core.Bool.{Bool, true, false, cond}
-use mathlib.Core.List.{List}
-use mathlib.Core.Logic.{⊎_elim}
-use Prim.Native.Nat.{ℕ, ◌+◌, ◌-◌, ◌*◌, ◌≤◌, ◌<◌}
+-- A certificate's potentials in place, and the smallest one. Assumes nothing.
+use Rattle.std.proofs.Common.{arith, ◌≡◌, refl, sym, ap, ◌∙◌, Bool, true, false, cond, List, ℕ, ◌+◌, ◌<◌, length, drop, ℤ, pos}
+use Rattle.std.specs.Int.{int_min}
 use native.Mathlib.Decide.{dec_lt}
 use native.Mathlib.Numerals.{add-one}
-use native.Mathlib.Omega.{arith}
-use lib.Dec.{T, leb→le, le→leb}
-use lib.IntN.{ℤ, pos, negsuc, nat_abs, ◌-ℤ◌}
-use lib.ListN.{length, drop, drop_of_length-le}
 use lib.Seq.{drop-cons}
-use lib.Signed.{le_z, lt_z, ◌≤ℤ◌}
-use borrow.Author.Tests.{leb-true, lt-leb}
-use mir.Syntax.{w64}
-use mir.Val.{SFits, to_z, of_z}
-use mir.Facts.{to_z-of_z}
-use Rattle.model.specs.Check.{potential_at, within_limit, least, allowance}
-use Rattle.model.specs.Limits.{max_potential}
-use Rattle.model.specs.Lists.{all}
-use Rattle.model.proofs.Lists.{mem-get_or}
-use Rattle.model.proofs.Tests.{all-each, holds, fails, same_test}
-use Rattle.words.proofs.Signed.{up, dn, up-or-dn, nat_eq, up-sub, nat_abs-is, le_z-iff, lt_z-iff, ≤ℤ_iff, ≤ℤ_trans}
+use lib.Signed.{le_z, lt_z}
+use Rattle.model.specs.Edition.{long_reads}
+use Rattle.model.specs.Check.{potential_at, least}
+use Rattle.model.proofs.Tests.{holds, fails}
+use Rattle.words.proofs.Signed.{up, dn, le_z-iff, lt_z-iff}
+use Rattle.certificate.specs.declared.Parts.{Parts}
+use Rattle.certificate.specs.View.{HasPotential, IsRead, head_size, potential_size, potential_in, potentials_in, certificate_of}
+use Rattle.certificate.proofs.Runs.{items-length}
+use Rattle.certificate.proofs.Placed.{placed}
 
--- ---- the limit
+module _ (bs : List ℕ) (parts : Parts) (is : IsRead long_reads bs parts) where
+  pub potentials-length : length (potentials_in bs parts.count) ≡ parts.count
+  potentials-length = items-length (potential_in bs) head_size potential_size parts.count
 
--- the numbers within the limit are those from its negative up to it
-abbrev lowest : ℤ
-lowest = negsuc (max_potential - 1)
+  -- there is a first one
+  pub some_potential : 0 < parts.count
+  some_potential = omega (arith, potentials-length, (placed long_reads bs (certificate_of long_reads bs parts) is.read).some)
 
-not_within : (z : ℤ) → lt_z z lowest ≡ true → within_limit z ≡ false
-not_within z t = lt-leb (nat_abs z) max_potential (omega (arith, nat_abs-is z, (lt_z-iff z lowest).0 (holds t)))
+  -- the potential i is there
+  pub there : (i : ℕ) → i < parts.count → HasPotential bs i
+  there i h = record { certificate = certificate_of long_reads bs parts; read = is.read; below = omega (arith, potentials-length) }
 
-within-most : (z : ℤ) → lt_z z lowest ≡ false → le_z z (pos max_potential) ≡ within_limit z
-within-most z t = same_test (le_z z (pos max_potential)) (within_limit z) to from
+-- the smaller of two
+smaller : (z m : ℤ) → int_min z m ≡ cond (le_z z m) z m
+smaller z m = by (lt_z m z) (le_z z m) refl refl
   where
-    above : dn z ≤ max_potential + up z
-    above = by (dec_lt (max_potential + up z) (dn z))
+    by : (s t : Bool) → lt_z m z ≡ s → le_z z m ≡ t → cond s m z ≡ cond t z m
+    by true true e f = absurd (omega (arith, (lt_z-iff m z).0 (holds e), (le_z-iff z m).0 (holds f)))
+    by true false e f = refl
+    by false true e f = refl
+    by false false e f = by_order (dec_lt (up m + dn z) (up z + dn m))
       where
-        by : Dec (max_potential + up z < dn z) → dn z ≤ max_potential + up z
-        by (yes h) = absurd (fails t ((lt_z-iff z lowest).1 (omega (arith, h))))
-        by (no h) = omega arith
+        by_order : Dec (up m + dn z < up z + dn m) → z ≡ m
+        by_order (yes h) = absurd (fails e ((lt_z-iff m z).1 h))
+        by_order (no h) = absurd (fails f ((le_z-iff z m).1 (omega arith)))
 
-    to : T (le_z z (pos max_potential)) → T (within_limit z)
-    to h =
-        le→leb (nat_abs z) max_potential
-        (⊎_elim (λ e. omega (arith, above, nat_abs-is z)) (λ e. omega (arith, (le_z-iff z (pos max_potential)).0 h, nat_abs-is z)) (up-or-dn z))
-
-    from : T (within_limit z) → T (le_z z (pos max_potential))
-    from h = (le_z-iff z (pos max_potential)).1 (omega (arith, leb→le (nat_abs z) max_potential h, nat_abs-is z))
-
--- as the code reads a number
-pub limit_below : (z : ℤ) → SFits w64 z → lt_z (to_z w64 (of_z w64 z)) lowest ≡ true → false ≡ within_limit z
-limit_below z f t = sym (not_within z (rw (to_z-of_z f) at t))
-
-pub limit_above : (z : ℤ) → SFits w64 z → lt_z (to_z w64 (of_z w64 z)) lowest ≡ false → le_z (to_z w64 (of_z w64 z)) (pos max_potential) ≡ within_limit z
-limit_above z f t = ap (λ (y : ℤ). le_z y (pos max_potential)) (to_z-of_z f) ∙ within-most z (rw (to_z-of_z f) at t)
-
--- ---- the smallest
-
--- the smallest of the first i potentials
-pub record Lowest (zs : List ℤ) (i : ℕ) (m : ℤ) : Type 0 where
-  pub rest : least (drop i zs) m ≡ least zs (potential_at zs 0)
-  pub below : m ≤ℤ potential_at zs 0
-  pub within : within_limit m ≡ true
-
-module _ (zs : List ℤ) (within : all within_limit zs ≡ true) where
-  each : (i : ℕ) → i < length zs → within_limit (potential_at zs i) ≡ true
-  each i h = (all-each within_limit zs).0 within (potential_at zs i) (mem-get_or zs i (pos 0) h)
-
-  pub lowest_start : 0 < length zs → Lowest zs 0 (potential_at zs 0)
-  lowest_start h = record { rest = refl; below = (≤ℤ_iff _ _).1 (omega arith); within = each 0 h }
-
-  pub lowest-next : (i : ℕ) → i < length zs → (m : ℤ) → Lowest zs i m → Lowest zs (i + 1) (cond (le_z (potential_at zs i) m) (potential_at zs i) m)
-  lowest-next i h m l = record {
-    rest = ap (λ (k : ℕ). least (drop k zs) (cond (le_z z m) z m)) (add-one i) ∙ sym (ap (λ (ys : List ℤ). least ys m) (drop-cons zs i (pos 0) h)) ∙ l.rest;
-    below = lower (le_z z m) refl;
-    within = inside (le_z z m);
-  }
-    where
-      z : ℤ
-      z = potential_at zs i
-
-      lower : (b : Bool) → le_z z m ≡ b → cond b z m ≤ℤ potential_at zs 0
-      lower true e = ≤ℤ_trans (record { le = holds e }) l.below
-      lower false e = l.below
-
-      inside : (b : Bool) → within_limit (cond b z m) ≡ true
-      inside true = each i h
-      inside false = l.within
-
-  pub lowest-end : (i : ℕ) → length zs ≤ i → (m : ℤ) → Lowest zs i m → nat_abs (potential_at zs 0 -ℤ m) ≡ allowance zs
-  unfolding allowance
-  lowest-end i h m l = ap (λ (y : ℤ). nat_abs (potential_at zs 0 -ℤ y)) (sym (ap (λ (ys : List ℤ). least ys m) (drop_of_length-le zs h)) ∙ l.rest)
-
-  -- the difference is a number from 0 up, and far from overflowing
-  pub lowest_range : 0 < length zs → (i : ℕ) (m : ℤ) → Lowest zs i m → (k : ℕ) × (potential_at zs 0 -ℤ m ≡ pos k) × (k ≤ 2 * max_potential)
-  lowest_range h i m l =
-      let first = potential_at zs 0 in
-      let d = first -ℤ m in
-      let order = (≤ℤ_iff m first).0 l.below in
-      let difference = up-sub first m in
-      let positive : dn d ≡ 0 = ⊎_elim (λ e. omega (arith, order, difference)) (λ e. e) (up-or-dn d) in (
-        up d,
-        nat_eq d (pos (up d)) (omega arith),
-        omega (arith, difference, nat_abs-is first, nat_abs-is m, leb-true (nat_abs first) max_potential (each 0 h), leb-true (nat_abs m) max_potential l.within),
-      )
+-- with the potential i the smallest is still to be found among those after it
+pub least-next : (zs : List ℤ) (i : ℕ) → i < length zs → (m : ℤ) → least (drop (i + 1) zs) (int_min (potential_at zs i) m) ≡ least (drop i zs) m
+least-next zs i h m =
+    ap (least (drop (i + 1) zs)) (smaller (potential_at zs i) m)
+    ∙ ap (λ (k : ℕ). least (drop k zs) (cond (le_z (potential_at zs i) m) (potential_at zs i) m)) (add-one i)
+    ∙ sym (ap (λ (ys : List ℤ). least ys m) (drop-cons zs i (pos 0) h))

@@ -1,11 +1,10 @@
 -- The number that decimal digits are.
-use Rattle.std.specs.Prelude.{ℕ, ◌+◌, ◌*◌, ◌-◌, ◌^◌, Bool, cond, ltb}
+use Rattle.std.specs.Prelude as rust
+use Rattle.std.specs.Prelude.{ℕ, ◌+◌, ◌*◌, ◌-◌, ◌^◌, Bool, cond, ltb, None, Some}
 use mathlib.Core.List.{List, [], ◌∷◌, foldl}
 use Rattle.std.proofs.Math.Option.{Option, none, some}
 use Rattle.model.specs.Lists.{all}
 use Rattle.model.specs.Plan.{between}
-use Rattle.arguments.specs.declared.Number.{Number}
-use Rattle.arguments.specs.declared.Number.TheVariants.{Nothing, Of}
 
 -- 0 to 9
 abbrev pub is_digit : ℕ → Bool
@@ -29,6 +28,6 @@ unfoldable pub capped : ℕ → ℕ
 capped n = cond (ltb largest n) largest n
 
 -- what is answered
-abbrev pub number_of : Option ℕ → Number
-number_of none = Nothing
-number_of (some n) = Of (capped n)
+abbrev pub number_of : Option ℕ → rust.Option ℕ
+number_of none = None
+number_of (some n) = Some (capped n)

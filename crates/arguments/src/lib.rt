@@ -1,58 +1,32 @@
 // Numbers in a program's arguments.
 #![tactic(auto)]
 
-ghost use Rattle.std.specs.Prelude.{◌≡◌, List, ℕ, ◌+◌, ◌*◌, ◌≤◌};
-ghost use Rattle.arguments.specs.Decimal.{decimal_in, capped, number_of};
+ghost use Rattle.std.specs.Prelude.{◌≡◌, List, ℕ};
+ghost use Rattle.arguments.specs.Decimal.{decimal_in, number_of};
 
 use std::env::Env;
 
-// What an argument is: a number, or none.
-#[derive(Clone, Copy)]
-pub enum Number {
-    Nothing,
-    Of(u64),
-}
-
-// The largest number of 64 bits.
-const LARGEST: u64 = 18446744073709551615;
-
-// The number with one digit more.
-fn with_digit(value: u64, digit: u8) -> u64
-    requires { digit ≤ 9 }
-    ensures { result ≡ capped (value * 10 + digit) }
-{
-    let d = digit as u64;
-    if (LARGEST - d) / 10 < value {
-        return LARGEST;
-    }
-    value * 10 + d
-}
-
 // The number that decimal digits are; one above the largest of 64 bits counts as that.
-pub fn number_in(s: &[u8]) -> Number
+pub fn number_in(s: &[u8]) -> Option<u64>
     ensures { result ≡ number_of (decimal_in s.now) }
 {
-    if s.len() == 0 {
-        return Number::Nothing;
+    if s.is_empty() {
+        return None;
     }
     let mut value: u64 = 0;
-    let mut i = 0;
-    while i < s.len() {
-        let b = s[i];
-        if b < 48 {
-            return Number::Nothing;
+    for b in s {
+        if !b.is_ascii_digit() {
+            return None;
         }
-        if 57 < b {
-            return Number::Nothing;
-        }
-        value = with_digit(value, b - 48);
-        i += 1;
+        value = value
+            .saturating_mul(10)
+            .saturating_add(u64::from(*b - b'0'));
     }
-    Number::Of(value)
+    Some(value)
 }
 
 // The number that an argument is.
-pub fn number_at<E: Env>(rt: &E, i: usize) -> Number
+pub fn number_at<E: Env>(rt: &E, i: usize) -> Option<u64>
     ensures { (argument : List ℕ) × (result ≡ number_of (decimal_in argument)) }
 {
     let mut buffer = io::buffer();

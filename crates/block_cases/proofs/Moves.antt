@@ -9,9 +9,8 @@ use Rattle.model.specs.Controller.{Write, refusal_of, last_refusal}
 use Rattle.model.specs.Text.{numbers_line}
 use Rattle.model.proofs.Lists.{table_more}
 use Rattle.words.proofs.Numbers.{AreBytes}
-use Rattle.controller.specs.View.{ReadyPart, After, Writes}
-use Rattle.controller.specs.declared.Controller.{Controller}
-use Rattle.controller.specs.declared.Written.{Written}
+use Rattle.controller.specs.View.{After, Writes}
+use Rattle.controller.specs.declared.part.Controller.{Controller}
 use Rattle.block_text.specs.Lines.{line_room}
 use Rattle.block_text.proofs.Line.{line-short}
 use Rattle.block_text.proofs.Writing.{refusal_small}
@@ -19,24 +18,17 @@ use Rattle.block_cases.specs.Script.{item_write, first_writes, Moved, Scripted}
 
 -- ---- the part
 
-pub moved_none : (c : Controller) → ReadyPart c → Moved c [] c
-moved_none c ready = record {
-  ready = ready;
-  more = λ P vs h. subst (λ (ws : List Write). After P ws c) (sym (append-nil vs)) h;
-}
+pub moved_none : (c : Controller) → Moved c [] c
+moved_none c = record { more = λ P vs h. subst (λ (ws : List Write). After P ws c) (sym (append-nil vs)) h }
 
 pub moved_then : (a b c : Controller) (ws vs : List Write) → Moved a ws b → Moved b vs c → Moved a (ws ++ vs) c
 moved_then a b c ws vs h g = record {
-  ready = g.ready;
   more = λ P us start. subst (λ (l : List Write). After P l c) (append_assoc us ws vs) (g.more P (us ++ ws) (h.more P us start));
 }
 
 -- a write is a move
 moved-write : (b c : Controller) (w : Write) (n : ℕ) → Writes b w c n → Moved b (w ∷ []) c
-moved-write b c w n h = record {
-  ready = rw (h.rules, h.next) h.steps.block.ready;
-  more = h.more;
-}
+moved-write b c w n h = record { more = h.more }
 
 -- ---- the refusal
 
@@ -52,24 +44,24 @@ last_small ws = go ws 0 (omega arith)
 
 -- ---- an item's writes
 
-pub scripted_none : (item : List ℕ) (c : Controller) → ReadyPart c → Scripted c (first_writes item 0) (record { controller = c; refusal = 0 })
-scripted_none item c ready = record { part = moved_none c ready; refusal = refl }
+pub scripted_none : (item : List ℕ) (c : Controller) → Scripted c (first_writes item 0) c 0
+scripted_none item c = record { part = moved_none c; refusal = refl }
 
 module _ (item : List ℕ) (a : Controller) where
   -- one more
-  pub scripted_more : (k : ℕ) (r s : Written) (w : Write) → w ≡ item_write item k → Scripted a (first_writes item k) r →
-      Writes r.controller w s.controller s.refusal → Scripted a (first_writes item (k + 1)) s
-  scripted_more k r s w e h g =
-      subst (λ (ws : List Write). Scripted a ws s) (sym (table_more (item_write item) k ∙ ap (λ (v : Write). first_writes item k ++ (v ∷ [])) (sym e))) (record {
-        part = moved_then a r.controller s.controller (first_writes item k) (w ∷ []) h.part (moved-write r.controller s.controller w s.refusal g);
+  pub scripted_more : (k : ℕ) (b c : Controller) (m n : ℕ) (w : Write) → w ≡ item_write item k → Scripted a (first_writes item k) b m →
+      Writes b w c n → Scripted a (first_writes item (k + 1)) c n
+  scripted_more k b c m n w e h g =
+      subst (λ (ws : List Write). Scripted a ws c n) (sym (table_more (item_write item) k ∙ ap (λ (v : Write). first_writes item k ++ (v ∷ [])) (sym e))) (record {
+        part = moved_then a b c (first_writes item k) (w ∷ []) h.part (moved-write b c w n g);
         refusal = g.steps.refusal ∙ sym (last_more (first_writes item k) w);
       })
 
   -- all
-  pub scripted_all : (k n : ℕ) (r : Written) → k ≡ n → Scripted a (first_writes item k) r → Scripted a (first_writes item n) r
-  scripted_all k n r e h = subst (λ (m : ℕ). Scripted a (first_writes item m) r) e h
+  pub scripted_all : (k n : ℕ) (c : Controller) (m : ℕ) → k ≡ n → Scripted a (first_writes item k) c m → Scripted a (first_writes item n) c m
+  scripted_all k n c m e h = subst (λ (j : ℕ). Scripted a (first_writes item j) c m) e h
 
 -- the line of its last write
-pub script_line : (a : Controller) (ws : List Write) (r : Written) (bytes : List ℕ) → Scripted a ws r → AreBytes bytes → length bytes ≡ 16 →
-    length (numbers_line r.refusal bytes) ≤ line_room
-script_line a ws r bytes h low sixteen = line-short r.refusal bytes (omega (arith, h.refusal, last_small ws)) low sixteen
+pub script_line : (a : Controller) (ws : List Write) (c : Controller) (n : ℕ) (bytes : List ℕ) → Scripted a ws c n → AreBytes bytes → length bytes ≡ 16 →
+    length (numbers_line n bytes) ≤ line_room
+script_line a ws c n bytes h low sixteen = line-short n bytes (omega (arith, h.refusal, last_small ws)) low sixteen

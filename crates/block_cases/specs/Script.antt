@@ -5,9 +5,8 @@ use Rattle.model.specs.Bytes.{number, part}
 use Rattle.model.specs.Controller.{Write, last_refusal}
 use Rattle.model.specs.Lists.{up_from}
 use Rattle.model.specs.Plan.{Plan}
-use Rattle.controller.specs.View.{write_of, ReadyPart, After}
-use Rattle.controller.specs.declared.Controller.{Controller}
-use Rattle.controller.specs.declared.Written.{Written}
+use Rattle.controller.specs.View.{write_of, After}
+use Rattle.controller.specs.declared.part.Controller.{Controller}
 
 -- how many writes an item has, and how many are made
 abbrev pub item_count : List ℕ → ℕ
@@ -28,10 +27,9 @@ first_writes item n = map (item_write item) (up_from 0 n)
 
 -- the part after writes, whichever were made before them
 pub record Moved (before : Controller) (ws : List Write) (after : Controller) : Type 0 where
-  pub ready : ReadyPart after
   pub more : (P : Plan) (vs : List Write) → After P vs before → After P (vs ++ ws) after
 
--- and the refusal of the last of them
-pub record Scripted (before : Controller) (ws : List Write) (r : Written) : Type 0 where
-  pub part : Moved before ws r.controller
-  pub refusal : r.refusal ≡ last_refusal ws
+-- and the number of the last one's refusal
+pub record Scripted (before : Controller) (ws : List Write) (after : Controller) (n : ℕ) : Type 0 where
+  pub part : Moved before ws after
+  pub refusal : n ≡ last_refusal ws

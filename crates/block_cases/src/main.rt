@@ -5,45 +5,50 @@
 mod replays; // replays.rt: a plan and all writes, for the call without state
 mod scripts; // scripts.rt: a plan and a script of writes
 
-ghost use Rattle.std.specs.Prelude.{◌≡◌};
+ghost use Rattle.std.specs.Prelude.{◌≡◌, true, false, MatchResult};
 ghost use Rattle.block_cases.specs.Kinds.{is_block_kind};
 
-use host::STDOUT;
 use std::fs::File;
 
-const BLOCK: u8 = 13;
+// The kinds by their numbers.
+#[derive(Clone, Copy, Debug, PartialEq, Eq)]
+enum Kind {
+    Block = 13,
+    Replay = 14,
+}
 
-const REPLAY: u8 = 14;
+impl TryFrom<u8> for Kind {
+    type Error = ();
 
-// Runs the next case of the file if its kind is one of these, and answers whether it is.
-fn run(kind: u8, file: i32) -> bool
-    ensures { result ≡ is_block_kind kind }
-{
-    match kind {
-        BLOCK => {
-            scripts::block_case(file);
-            true
+    fn try_from(kind: u8) -> Result<Kind, ()>
+        ensures { MatchResult result (λ k. is_block_kind kind ≡ true) (λ e. is_block_kind kind ≡ false) }
+    {
+        match kind {
+            13 => Ok(Kind::Block),
+            14 => Ok(Kind::Replay),
+            _ => Err(()),
         }
-        REPLAY => {
-            replays::replay_case(file);
-            true
-        }
-        _ => false,
     }
 }
 
-fn main(rt: HostRuntime) {
-    let mut count = [0u8; 2];
-    let cases = File::open(&rt, "cases.bin").ok();
-    let file = host::descriptor(&cases);
-    io::read_full(file, &mut count);
-    let mut left = words::read_u16(&count, 0);
-    while 0 < left {
-        let mut kind = [0u8; 1];
-        io::read_full(file, &mut kind);
-        if !run(kind[0], file) {
-            io::write_all(STDOUT, b"unknown kind\n");
+// Runs the next case of the file if its kind is one of these, and answers whether it is.
+fn run(kind: u8, file: &mut File) -> bool
+    ensures { result ≡ is_block_kind kind }
+{
+    let Ok(kind) = Kind::try_from(kind) else {
+        return false;
+    };
+    match kind {
+        Kind::Block => {
+            scripts::block_case(file);
         }
-        left -= 1;
+        Kind::Replay => {
+            replays::replay_case(file);
+        }
     }
+    true
+}
+
+fn main(rt: HostRuntime) {
+    records::run_cases(&rt, run);
 }

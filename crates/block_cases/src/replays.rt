@@ -3,12 +3,13 @@ ghost use Rattle.std.specs.Prelude.{List, ℕ};
 ghost use Rattle.controller.specs.View.{Replays};
 
 use host::STDOUT;
+use std::fs::File;
 
 // Writes what the call tells and leaves to standard output, and answers the number.
 fn write_replay(plan: &[u8], writes: &[u8], out: &mut [u8; controller::BYTES]) -> u64
     ensures { Replays plan.now writes.now out.old out.new result }
 {
-    let n = controller::replay(plan, writes, out);
+    let n = controller::number_of(controller::replay(plan, writes, out));
     io::print_decimal(STDOUT, n);
     io::write_all(STDOUT, b"\n");
     io::write_all(STDOUT, out);
@@ -16,7 +17,7 @@ fn write_replay(plan: &[u8], writes: &[u8], out: &mut [u8; controller::BYTES]) -
 }
 
 // Reads a plan, writes and the bytes that are lent, and writes what the call tells and leaves.
-pub fn replay_case(file: i32) -> u64
+pub fn replay_case(file: &mut File) -> u64
     ensures { (plan writes out out' : List ℕ) × Replays plan writes out out' result }
 {
     let mut plan = io::large_buffer();

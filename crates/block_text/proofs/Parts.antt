@@ -11,8 +11,9 @@ use Rattle.model.specs.Text.{write_line, write_lines}
 use Rattle.theory.proofs.Controller.{after_more}
 use Rattle.policy.specs.View.{tasks_in}
 use Rattle.policy.specs.declared.Rules.{Rules}
-use Rattle.controller.specs.View.{block_of, Ready, Becomes}
-use Rattle.controller.specs.declared.Block as controller
+use Rattle.controller.specs.Block.{Ready, block_of}
+use Rattle.controller.specs.View.{Becomes}
+use Rattle.controller.specs.declared.part.Block as controller
 
 -- an even number of bytes tears no write
 pub writes-append : (bs cs : List ℕ) → length bs % 2 ≡ 0 → writes_in (bs ++ cs) ≡ writes_in bs ++ writes_in cs
@@ -39,7 +40,7 @@ module _ (P : Plan) (b : Block) (bs cs : List ℕ) (even : length bs % 2 ≡ 0) 
 abbrev pub RunsTo : Rules → List ℕ → controller.Block → List ℕ → controller.Block → Type 0
 RunsTo r next b writes after = Becomes r next (λ P. after_writes P (block_of (tasks_in r) b) (writes_in writes)) after
 
-pub runs_none : (r : Rules) (next : List ℕ) (b : controller.Block) → Ready r next b → RunsTo r next b [] b
+pub runs_none : (r : Rules) (next : List ℕ) (b : controller.Block) → Ready r b → RunsTo r next b [] b
 runs_none r next b ready = record { is = λ P part. refl; ready = ready }
 
 -- one part after another

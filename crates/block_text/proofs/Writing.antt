@@ -1,6 +1,6 @@
 -- Lines that are written one after another, each with its write made.
 -- Assumes nothing.
-use mathlib.Core.Path.{◌≡◌, refl, sym, ap, ap₂, ◌∙◌}
+use mathlib.Core.Path.{◌≡◌, refl, sym, ap, ap₂, ◌∙◌, subst}
 use mathlib.Core.Bool.{Bool, true, false, cond, ◌||◌}
 use mathlib.Core.List.{List, ◌∷◌}
 use Prim.Native.Nat.{ℕ, ◌+◌, ◌*◌, ◌/◌, ◌^◌, ◌≤◌, ◌<◌}
@@ -17,8 +17,9 @@ use Rattle.words.proofs.Put.{put_as}
 use Rattle.text.proofs.Put.{counted}
 use Rattle.policy.specs.View.{Tasks, tasks_in}
 use Rattle.policy.specs.declared.Rules.{Rules}
-use Rattle.controller.specs.View.{block_of, write_of, PartOf, Ready, Becomes}
-use Rattle.controller.specs.declared.Block.{Block}
+use Rattle.controller.specs.Block.{Ready, block_of}
+use Rattle.controller.specs.View.{write_of, PartOf, Becomes}
+use Rattle.controller.specs.declared.part.Block.{Block}
 use Rattle.controller.proofs.Lists.{writes_at, writes_end}
 use Rattle.controller.proofs.Reached.{Reached, reached-start, reached-next, reached-end}
 use Rattle.block_text.specs.Lines.{line_room, Lined}
@@ -52,7 +53,7 @@ pub record Made (r : Rules) (next writes : List ℕ) (after : Block) (i byte ref
   pub sixteen : length bytes ≡ 16
   pub low : AreBytes bytes
 
-pub writing_start : (r : Rules) (next writes : List ℕ) (b : Block) (before : List ℕ) → Ready r next b → Writing r next writes b before before b 0 0
+pub writing_start : (r : Rules) (next writes : List ℕ) (b : Block) (before : List ℕ) → Ready r b → Writing r next writes b before before b 0 0
 writing_start r next writes b before ready = record {
   reached = reached-start r next writes b ready;
   size = refl;
@@ -83,10 +84,10 @@ module _ (r : Rules) (next writes : List ℕ) (b : Block) (before out : List ℕ
     unfolding write_line
     line P part = ap₂ numbers_line m.told (m.shown (tasks_in r) ∙ ap registers (m.block.is P part))
 
-    pub writing-next : (written : List ℕ) (place : ℕ) → Put out written end (numbers_line refusal bytes) place → length written ≡ length out →
-        Writing r next writes b before written more place (i + 2)
-    writing-next written place p same = record {
-      reached = reached-next r next writes b after i h.reached byte m.read more m.inside m.block;
+    pub writing-next : (written : List ℕ) (place : ℕ) → Put out written end (numbers_line refusal bytes) place → length written ≡ length out → (j : ℕ) → j ≡ i + 2 →
+        Writing r next writes b before written more place j
+    writing-next written place p same j e = subst (λ (k : ℕ). Writing r next writes b before written more place k) (sym e) (record {
+      reached = reached-next r next writes b after i h.reached byte m.read more m.inside (i + 2) refl m.block;
       size = same ∙ h.size;
       room = omega (arith, p.next, short, h.room);
       lines = λ P part.
@@ -94,7 +95,7 @@ module _ (r : Rules) (next writes : List ℕ) (b : Block) (before out : List ℕ
           (ahead-next {xs = write_line P (block_of (tasks_in r) after) write} {ys = write_lines P (after_write P (block_of (tasks_in r) after) write) later}
           (put_as (line P part) p) same
           (ahead_as (ap (write_lines P (block_of (tasks_in r) after)) first) (h.lines P part)));
-    }
+    })
 
   -- all of them
   pub writing-end : length writes ≤ i + 1 → Lined before out r next b writes (record { block = after; end = end })

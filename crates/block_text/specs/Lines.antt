@@ -7,8 +7,9 @@ use Rattle.model.specs.Plan.{Plan}
 use Rattle.model.specs.Text.{write_lines}
 use Rattle.policy.specs.View.{tasks_in}
 use Rattle.policy.specs.declared.Rules.{Rules}
-use Rattle.controller.specs.View.{block_of, PartOf, Becomes}
-use Rattle.controller.specs.declared.Block.{Block}
+use Rattle.controller.specs.Block.{block_of}
+use Rattle.controller.specs.View.{PartOf, Becomes}
+use Rattle.controller.specs.declared.part.Block.{Block}
 use Rattle.block_text.specs.declared.Lines.{Lines}
 
 -- the most that a line takes: the refusal with its space 3, and each of sixteen registers 4

@@ -6,18 +6,23 @@ ghost use Rattle.model.specs.Bytes.{Put};
 ghost use Rattle.model.specs.Controller.{after_writes, writes_in};
 ghost use Rattle.model.specs.Text.{field, number_line, numbers_line};
 ghost use Rattle.policy.specs.View.{tasks_in};
-ghost use Rattle.controller.specs.View.{block_of, Ready, Becomes};
+ghost use Rattle.controller.specs.Block.{Ready, block_of};
+ghost use Rattle.controller.specs.View.{Becomes, refusal_of_result};
 ghost use Rattle.block_text.specs.Lines.{line_room, part_bytes, text_room, Lined};
 
 use controller::Block;
 use host::STDOUT;
-use policy::Rules;
+use machine::Machine;
+use refusals::Refusal;
 
 // The most bytes of a line.
 pub const LINE_ROOM: usize = 67;
 
 // How many bytes of writes are read at a time; an even number, so that no write is torn.
 pub const PART: usize = 2048;
+
+// The last of the bytes that a line shows.
+const LAST: usize = controller::BYTES - 1;
 
 const TEXT_ROOM: usize = LINE_ROOM * (PART / 2);
 
@@ -33,7 +38,7 @@ fn put_byte(out: &mut [u8], at: usize, byte: u8) -> usize
     requires { at + length (field byte) ≤ length out.old }
     ensures { Put out.old out.new at (field byte) result }
 {
-    text::put_field(out, at, byte as u64)
+    text::put_field(out, at, u64::from(byte))
 }
 
 // Writes a byte as a number that ends its line.
@@ -41,45 +46,38 @@ fn put_last_byte(out: &mut [u8], at: usize, byte: u8) -> usize
     requires { at + length (number_line byte) ≤ length out.old }
     ensures { Put out.old out.new at (number_line byte) result }
 {
-    text::put_number_line(out, at, byte as u64)
+    text::put_number_line(out, at, u64::from(byte))
 }
 
-// Writes the line of a write at a place, its refusal and the sixteen bytes, and answers the place after it.
-pub fn put_line(out: &mut [u8], at: usize, refusal: u64, bytes: [u8; controller::BYTES]) -> usize
-    requires { at + length (numbers_line refusal bytes) ≤ length out.old }
-    ensures { Put out.old out.new at (numbers_line refusal bytes) result }
+// Writes the line of a write at a place, its refusal or 0 and the sixteen bytes, and answers the place after it.
+pub fn put_line(
+    out: &mut [u8],
+    at: usize,
+    told: Result<(), Refusal>,
+    bytes: [u8; controller::BYTES],
+) -> usize
+    requires { at + length (numbers_line (refusal_of_result told) bytes) ≤ length out.old }
+    ensures { Put out.old out.new at (numbers_line (refusal_of_result told) bytes) result }
 {
-    let mut end = text::put_field(out, at, refusal);
-    let mut i = 0;
-    while i + 1 < controller::BYTES {
+    let mut end = text::put_field(out, at, controller::number_of(told));
+    for i in 0..LAST {
         end = put_byte(out, end, bytes[i]);
-        i += 1;
     }
-    put_last_byte(out, end, bytes[i])
+    put_last_byte(out, end, bytes[LAST])
 }
 
 // Writes the lines of writes from a block on, and answers the block after them and the place after the lines.
-pub fn put_lines(
-    out: &mut [u8],
-    rules: Rules,
-    next: &[u8; plan::PAIRS],
-    block: Block,
-    writes: &[u8],
-) -> Lines
-    requires { Ready rules next.now block × (line_room * (length writes.now / 2) ≤ length out.old) }
-    ensures { Lined out.old out.new rules next.now block writes.now result }
+pub fn put_lines(out: &mut [u8], machine: &Machine, block: Block, writes: &[u8]) -> Lines
+    requires { Ready machine.now.rules block × (line_room * (length writes.now / 2) ≤ length out.old) }
+    ensures { Lined out.old out.new machine.now.rules machine.now.next block writes.now result }
 {
     let mut after = block;
     let mut end = 0;
-    let mut i = 0;
-    while i + 1 < writes.len() {
-        let byte = words::byte(writes, i);
-        let value = writes[i + 1];
-        after = controller::step(rules, next, after, byte as u64, value);
+    for i in 0..writes.len() / 2 {
+        let byte = u64::from(writes[2 * i]);
+        let told = controller::step(machine, &mut after, byte, writes[2 * i + 1]);
         let bytes = controller::registers(after);
-        let refusal = controller::refusal_of(byte as u64, value);
-        end = put_line(out, end, refusal, bytes);
-        i += 2;
+        end = put_line(out, end, told, bytes);
     }
     Lines { block: after, end }
 }
@@ -99,13 +97,12 @@ pub fn text_room() -> [u8; TEXT_ROOM]
 }
 
 // Writes the lines of a part to standard output, and answers the block after its writes.
-pub fn print_lines(rules: Rules, next: &[u8; plan::PAIRS], block: Block, writes: &[u8]) -> Block
-    requires { Ready rules next.now block × (length writes.now ≤ part_bytes) }
-    ensures { Becomes rules next.now (λ P. after_writes P (block_of (tasks_in rules) block) (writes_in writes.now)) result }
+pub fn print_lines(machine: &Machine, block: Block, writes: &[u8]) -> Block
+    requires { Ready machine.now.rules block × (length writes.now ≤ part_bytes) }
+    ensures { Becomes machine.now.rules machine.now.next (λ P. after_writes P (block_of (tasks_in machine.now.rules) block) (writes_in writes.now)) result }
 {
     let mut text = text_room();
-    let lines = put_lines(&mut text, rules, next, block, writes);
-    let end = lines.end;
-    io::write_all(STDOUT, &text[..end]);
+    let lines = put_lines(&mut text, machine, block, writes);
+    io::write_all(STDOUT, &text[..lines.end]);
     lines.block
 }

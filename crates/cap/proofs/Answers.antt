@@ -7,24 +7,18 @@ use Prim.Native.Nat.{ℕ, ◌+◌, ◌-◌, ◌^◌, ◌≤◌, ◌<◌}
 use native.Mathlib.Omega.{arith}
 use lib.ListN.{length, length-append}
 use lib.Seq.{drop-nil}
+use Rattle.std.specs.Prelude.{Ok, Err, Some, None}
 use Rattle.model.specs.Plan.{Task, Plan, faulty, sound, read_plan}
 use Rattle.model.specs.Cap.{CapAnswer, work_of, cap_run, earlier, cap_in_range, cap, Exact}
 use Rattle.theory.proofs.Cap.{cap-faulty, cap-sound, cap-told, cap-claim}
 use Rattle.plan.specs.View.{fault_number}
 use Rattle.plan.specs.declared.Fault.{Fault}
 use Rattle.refusals.specs.declared.Refusal.TheVariants as refusal
-use Rattle.cap.specs.View.{answer_of, no_labels, refused_by, CapOf, Shows, Room, Scans, Watched, Watching, Feeds, Checks}
-use Rattle.cap.specs.declared.Answer.{Answer}
-use Rattle.cap.specs.declared.Answer.TheVariants.{Refused, Over, Kept}
+use Rattle.refusals.specs.declared.Refusal.{Refusal}
+use Rattle.cap.specs.View.{Answer, answer_of, no_labels, CapOf, Shows, Room, Scans, Watched, Watching, Refuses, Feeds, Checks}
 use Rattle.cap.specs.declared.Cap.{Cap}
-use Rattle.cap.specs.declared.Begun.{Begun}
 use Rattle.cap.specs.declared.Watch.{Watch}
-
-refused-kept : {r : _} → Refused r ≡ Kept → ⊥
-refused-kept e = let z : ◌≡◌ {A = ℕ} 0 1 = cc in omega arith
-
-over-kept : {t : ℕ} → Over t ≡ Kept → ⊥
-over-kept e = let z : ◌≡◌ {A = ℕ} 0 1 = cc in omega arith
+use Rattle.cap.specs.declared.Window.{Window}
 
 -- ---- before the first label
 
@@ -32,29 +26,29 @@ shows-none : (ts : List Task) (k : ℕ) → Shows ts k [] no_labels
 shows-none ts k = record { slots = refl; sum = sym (ap (work_of ts) (drop-nil (0 - k))); last = refl }
 
 module _ (plan : List ℕ) (k w : ℕ) where
-  refusal-told : (r : _) → cap plan [] k w ≡ answer_of (Refused r) → (b : Begun) → b ≡ refused_by r → Watched plan k w [] b.cap b.watch
-  refusal-told r e b same =
-      subst (λ (x : Begun). Watched plan k w [] x.cap x.watch) (sym same) (record { answer = sym e; going = λ q. absurd (refused-kept q) })
-
-  pub begun-faulty : (f : Fault) → read_plan plan ≡ faulty (fault_number f) → (b : Begun) → b ≡ refused_by (refusal.Plan f) → Watched plan k w [] b.cap b.watch
-  begun-faulty f e = refusal-told (refusal.Plan f) (cap-faulty plan [] k w (fault_number f) e)
+  pub begun-faulty : (f : Fault) → read_plan plan ≡ faulty (fault_number f) → Refuses plan k w (refusal.Plan f)
+  begun-faulty f e log = cap-faulty plan log k w (fault_number f) e
 
   module _ (P : Plan) (read : read_plan plan ≡ sound P) where
-    pub begun_unranged : cap_in_range k w ≡ false → (b : Begun) → b ≡ refused_by refusal.BadCap → Watched plan k w [] b.cap b.watch
-    begun_unranged e = refusal-told refusal.BadCap (cap-sound plan [] k w P read false e)
+    pub begun_unranged : cap_in_range k w ≡ false → Refuses plan k w refusal.BadCap
+    begun_unranged e log = cap-sound plan log k w P read false e
 
-    pub begun_kept : (c : Cap) → CapOf P.tasks k w c → Watched plan k w [] c (record { answer = Kept; window = no_labels })
+    pub begun_kept : (c : Cap) → CapOf P.tasks k w c → (v : Window) → v ≡ no_labels → Watched plan k w [] c (record { answer = Ok None; window = v })
     unfolding cap_run
-    begun_kept c of = record {
+    begun_kept c of v same = record {
       answer = sym (cap-sound plan [] k w P read true of.ranged);
-      going = λ e. record { plan-read = P; read = read; going = record { of = of; so_far = refl; shows = shows-none P.tasks k } };
+      going = λ e. record {
+        plan-read = P;
+        read = read;
+        going = record { of = of; so_far = refl; shows = subst (Shows P.tasks k []) (sym same) (shows-none P.tasks k) };
+      };
     }
 
 -- ---- after more labels
 
 module _ (c : Cap) (before : Watch) (labels : List ℕ) where
   -- an answer that is told stays
-  stays : (a : Answer) → before.answer ≡ a → ((b : CapAnswer) → earlier (answer_of a) b ≡ answer_of a) → (a ≡ Kept → ⊥) → Feeds c before labels before
+  stays : (a : Answer) → before.answer ≡ a → ((b : CapAnswer) → earlier (answer_of a) b ≡ answer_of a) → (a ≡ Ok None → ⊥) → Feeds c before labels before
   stays a is first never plan k w log watched = record {
     answer =
         let later = cap plan (log ++ labels) k w in
@@ -65,13 +59,13 @@ module _ (c : Cap) (before : Watch) (labels : List ℕ) where
     going = λ e. absurd (never (sym is ∙ e));
   }
 
-  pub fed_over : (t : ℕ) → before.answer ≡ Over t → Feeds c before labels before
-  fed_over t is = stays (Over t) is (λ b. refl) over-kept
+  pub fed_over : (t : ℕ) → before.answer ≡ Ok (Some t) → Feeds c before labels before
+  fed_over t is = stays (Ok (Some t)) is (λ b. refl) (λ e. cc)
 
-  pub fed_refused : (r : _) → before.answer ≡ Refused r → Feeds c before labels before
-  fed_refused r is = stays (Refused r) is (λ b. refl) refused-kept
+  pub fed_refused : (r : Refusal) → before.answer ≡ Err r → Feeds c before labels before
+  fed_refused r is = stays (Err r) is (λ b. refl) (λ e. cc)
 
-  module _ (is : before.answer ≡ Kept) where
+  module _ (is : before.answer ≡ Ok None) where
     pub room_of : Watching c before (length labels) → Room c before.window (length labels)
     room_of w =
         let g = w.watched.going is in
@@ -116,4 +110,11 @@ pub checked : (plan labels : List ℕ) (k w : ℕ) (c : Cap) (s : Watch) → Wat
 checked plan labels k w c s watched = record {
   answer = watched.answer;
   exact = λ P read ranged. subst (Exact P.tasks k w labels) (sym watched.answer) (cap-claim plan labels k w P read ranged);
+}
+
+-- what is refused is refused for each log
+pub checked-refused : (plan labels : List ℕ) (k w : ℕ) (r : Refusal) → Refuses plan k w r → Checks plan labels k w (Err r)
+checked-refused plan labels k w r refused = record {
+  answer = sym (refused labels);
+  exact = λ P read ranged. subst (Exact P.tasks k w labels) (refused labels) (cap-claim plan labels k w P read ranged);
 }

@@ -8,7 +8,7 @@ use native.Mathlib.Numerals.{add-one}
 use native.Mathlib.Omega.{arith}
 use borrow.Author.Tests.{leb-true}
 use lib.Dec.{leb}
-use lib.ListN.{length, get_or, take, drop, length-append, length-drop}
+use lib.ListN.{length, get_or, take, drop, length-append}
 use lib.Seq.{split_at, take-suc, take_all, length-take-le, append_snoc}
 use Rattle.model.specs.Limits.{max_cap_slots, max_cap_work}
 use Rattle.model.specs.Refusals.{not_admitted}
@@ -16,14 +16,14 @@ use Rattle.model.specs.Plan.{Task, between}
 use Rattle.model.specs.Cap.{CapAnswer, kept, over, refused, label_work, work_of, cap_run, earlier, cap_in_range}
 use Rattle.model.proofs.Lists.{get_or-table}
 use Rattle.model.proofs.Plan.{both}
+use Rattle.std.specs.Prelude.{Ok, Err, Some, None}
 use Rattle.theory.proofs.Cap.{run-told, next-foreign, next-over, next-kept}
 use Rattle.plan.specs.View.{label_count}
 use Rattle.refusals.specs.declared.Refusal.TheVariants.{NotAdmitted}
-use Rattle.cap.specs.View.{places, padded, CapOf, Shows, Going, Room, Scans}
-use Rattle.cap.specs.declared.Answer.TheVariants.{Refused, Over, Kept}
+use Rattle.cap.specs.View.{Answer, places, CapOf, Shows, Going, Room, Scans}
 use Rattle.cap.specs.declared.Cap.{Cap}
 use Rattle.cap.specs.declared.Window.{Window}
-use Rattle.cap.proofs.Sliding.{label_back, padded-length, oldest_within, sum-next, kept-within, kept_own, back_is, last_more}
+use Rattle.cap.proofs.Sliding.{label_back, oldest_within, sum-next, kept-within, kept_own, back_is, last_more}
 
 -- a cap in range
 pub range_bounds : (k w : ℕ) → cap_in_range k w ≡ true → (1 ≤ k) × (k ≤ max_cap_slots) × (w ≤ max_cap_work)
@@ -95,9 +95,8 @@ module _ (c : Cap) (v : Window) (labels : List ℕ) where
       pub few-labels : c.labels ≤ label_count
       few-labels = omega (arith, room.going.of.labels, room.going.of.few)
 
-      pub row_fits : (length v.last ≡ places) × (1 ≤ c.slots) × (c.slots ≤ places) × (i ≤ length labels)
+      pub row_fits : (1 ≤ c.slots) × (c.slots ≤ places) × (i ≤ length labels)
       row_fits = let r = range_bounds room.slots room.work room.going.of.ranged in (
-        ap length room.going.shows.last ∙ omega (arith, length-drop (length room.log) (padded room.log), padded-length room.log),
         omega (arith, room.going.of.slots),
         omega (arith, room.going.of.slots),
         s.inside,
@@ -117,7 +116,7 @@ module _ (c : Cap) (v : Window) (labels : List ℕ) where
 
     -- all of them
     pub scanned_end : length labels ≤ i → (slots : ℕ) → slots ≡ v.slots + i → (last : List ℕ) → last ≡ drop (length labels) (v.last ++ labels) →
-        Scans c v labels (record { answer = Kept; window = record { slots = slots; sum = sum; last = last } })
+        Scans c v labels (record { answer = Ok None; window = record { slots = slots; sum = sum; last = last } })
     scanned_end h slots slots-is last last-is ts k w log g =
         let all : log ++ take i labels ≡ log ++ labels = ap (λ (l : List ℕ). log ++ l) (take_all i labels h) in
         let end = subst (λ (l : List ℕ). Passed ts k w l sum) all (here ts k w log g) in
@@ -149,13 +148,13 @@ module _ (c : Cap) (v : Window) (labels : List ℕ) where
           let later = cap_run ts k w (more ++ drop (suc i) labels) in
           ap (cap_run ts k w) (whole log) ∙ run-told ts k w more (drop (suc i) labels) ∙ ap (λ (b : CapAnswer). earlier b later) e ∙ first later
 
-      pub scanned_foreign : c.labels ≤ get_or labels i 0 → Scans c v labels (record { answer = Refused NotAdmitted; window = v })
+      pub scanned_foreign : c.labels ≤ get_or labels i 0 → Scans c v labels (record { answer = Err NotAdmitted; window = v })
       scanned_foreign f ts k w log g =
           let told = next-foreign ts k w (before ts k w log g) (get_or labels i 0) (here ts k w log g).so_far (omega (arith, g.of.labels)) in
           record { answer = sym (stays ts k w log (refused not_admitted) (λ b. refl) told); going = λ e. absurd (never e) }
         where
-          never : Refused NotAdmitted ≡ Kept → ⊥
-          never e = let z : ◌≡◌ {A = ℕ} 0 1 = cc in omega arith
+          never : ◌≡◌ {A = Answer} (Err NotAdmitted) (Ok None) → ⊥
+          never e = cc
 
       -- one label more
       module _ (own : get_or labels i 0 < c.labels) (oldest next : ℕ) (is : oldest ≡ back)
@@ -176,7 +175,7 @@ module _ (c : Cap) (v : Window) (labels : List ℕ) where
                 sum-next ts (before ts k w log g) k r.0 r.1 (get_or labels i 0),
               )
 
-        pub scanned_over : c.most < next → (slot : ℕ) → slot ≡ v.slots + i → Scans c v labels (record { answer = Over slot; window = v })
+        pub scanned_over : c.most < next → (slot : ℕ) → slot ≡ v.slots + i → Scans c v labels (record { answer = Ok (Some slot); window = v })
         scanned_over o slot slot_is ts k w log g =
             let told = next-over ts k w (before ts k w log g) (get_or labels i 0) (here ts k w log g).so_far (own_label ts k w log g) (omega (arith, total ts k w log g, g.of.most)) in
             record {
@@ -184,8 +183,8 @@ module _ (c : Cap) (v : Window) (labels : List ℕ) where
               going = λ e. absurd (never e);
             }
           where
-            never : Over slot ≡ Kept → ⊥
-            never e = let z : ◌≡◌ {A = ℕ} 0 1 = cc in omega arith
+            never : ◌≡◌ {A = Answer} (Ok (Some slot)) (Ok None) → ⊥
+            never e = cc
 
         pub scanned_next : next ≤ c.most → Scanned c v labels next (i + 1)
         scanned_next o = record {

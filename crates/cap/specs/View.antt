@@ -1,4 +1,6 @@
 -- What the structs of a cap stand for, and what its functions promise.
+use Rattle.std.specs.Prelude as rust
+use Rattle.std.specs.Prelude.{Ok, Err, Some, None}
 use Rattle.std.specs.Prelude.{◌≡◌, true, List, ◌++◌, map, ℕ, ◌+◌, ◌-◌, ◌^◌, ◌≤◌, ◌<◌, length, drop, replicate}
 use Rattle.model.specs.Limits.{max_cap_slots}
 use Rattle.model.specs.Lists.{up_from}
@@ -7,17 +9,18 @@ use Rattle.model.specs.Cap.{CapAnswer, refused, over, kept, label_work, work_of,
 use Rattle.plan.specs.View.{label_count}
 use Rattle.refusals.specs.Numbers.{refusal_number}
 use Rattle.refusals.specs.declared.Refusal.{Refusal}
-use Rattle.cap.specs.declared.Answer.{Answer}
-use Rattle.cap.specs.declared.Answer.TheVariants.{Refused, Over, Kept}
-use Rattle.cap.specs.declared.Begun.{Begun}
 use Rattle.cap.specs.declared.Cap.{Cap}
 use Rattle.cap.specs.declared.Watch.{Watch}
 use Rattle.cap.specs.declared.Window.{Window}
 
+-- what is told of a log
+abbrev pub Answer : Type 0
+Answer = rust.Result (rust.Option ℕ) Refusal
+
 abbrev pub answer_of : Answer → CapAnswer
-answer_of (Refused r) = refused (refusal_number r)
-answer_of (Over t) = over t
-answer_of Kept = kept
+answer_of (Err r) = refused (refusal_number r)
+answer_of (Ok (Some t)) = over t
+answer_of (Ok None) = kept
 
 -- ---- the cap
 
@@ -50,13 +53,6 @@ pub record Shows (ts : List Task) (k : ℕ) (log : List ℕ) (v : Window) : Type
 abbrev pub no_labels : Window
 no_labels = record { slots = 0; sum = 0; last = replicate places 0 }
 
--- a refusal before the first label, with the cap of no plan
-abbrev pub refused_by : Refusal → Begun
-refused_by r = record {
-  cap = record { works = replicate label_count 0; labels = 0; slots = 0; most = 0 };
-  watch = record { answer = Refused r; window = no_labels };
-}
-
 -- ---- a log that goes on
 
 -- the log keeps the cap so far, and the window is its
@@ -68,7 +64,7 @@ pub record Going (ts : List Task) (k w : ℕ) (log : List ℕ) (c : Cap) (v : Wi
 -- the answer for the log; and while it is `kept` the log can go on
 pub record Follows (ts : List Task) (k w : ℕ) (log : List ℕ) (c : Cap) (s : Watch) : Type 0 where
   pub answer : answer_of s.answer ≡ cap_run ts k w log
-  pub going : s.answer ≡ Kept → Going ts k w log c s.window
+  pub going : s.answer ≡ Ok None → Going ts k w log c s.window
 
 -- a window from which so many labels more can be counted
 pub record Room (c : Cap) (v : Window) (n : ℕ) : Type 0 where
@@ -94,7 +90,11 @@ pub record Goes (plan : List ℕ) (k w : ℕ) (log : List ℕ) (c : Cap) (v : Wi
 -- the definition's answer for the log; and while it is `kept` the log can go on
 pub record Watched (plan : List ℕ) (k w : ℕ) (log : List ℕ) (c : Cap) (s : Watch) : Type 0 where
   pub answer : answer_of s.answer ≡ cap plan log k w
-  pub going : s.answer ≡ Kept → Goes plan k w log c s.window
+  pub going : s.answer ≡ Ok None → Goes plan k w log c s.window
+
+-- every log is refused
+abbrev pub Refuses : List ℕ → ℕ → ℕ → Refusal → Type 0
+Refuses plan k w r = (log : List ℕ) → cap plan log k w ≡ refused (refusal_number r)
 
 -- so many labels more can be counted
 pub record Watching (c : Cap) (s : Watch) (n : ℕ) : Type 0 where

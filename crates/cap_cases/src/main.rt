@@ -1,49 +1,50 @@
-// Runs each case of cases.bin, and writes what its kind writes for it. The file is one of the program `cases`; the kinds are those of
-// caps.
+// Runs each case of cases.bin, and writes the line of its answer. The file is one of the program `cases`; the kinds are those of caps.
 #![tactic(auto)]
 
 mod calls; // calls.rt: a plan, a cap and a log, for the call
 mod parts; // parts.rt: a plan, a cap and a log in parts
 
-ghost use Rattle.std.specs.Prelude.{◌≡◌};
+ghost use Rattle.std.specs.Prelude.{◌≡◌, true, false, MatchResult};
 ghost use Rattle.cap_cases.specs.Kinds.{is_cap_kind};
 
-use host::STDOUT;
 use std::fs::File;
 
-const CALL: u8 = 16;
+// The kinds by their numbers.
+#[derive(Clone, Copy, Debug, PartialEq, Eq)]
+enum Kind {
+    Call = 16,
+    Parts = 17,
+}
 
-const PARTS: u8 = 17;
+impl TryFrom<u8> for Kind {
+    type Error = ();
 
-// Runs the next case of the file if its kind is one of these, and answers whether it is.
-fn run(kind: u8, file: i32) -> bool
-    ensures { result ≡ is_cap_kind kind }
-{
-    match kind {
-        CALL => {
-            calls::call_case(file);
-            true
+    fn try_from(kind: u8) -> Result<Kind, ()>
+        ensures { MatchResult result (λ k. is_cap_kind kind ≡ true) (λ e. is_cap_kind kind ≡ false) }
+    {
+        match kind {
+            16 => Ok(Kind::Call),
+            17 => Ok(Kind::Parts),
+            _ => Err(()),
         }
-        PARTS => {
-            parts::parts_case(file);
-            true
-        }
-        _ => false,
     }
 }
 
+// Runs the next case of the file if its kind is one of these, and answers whether it is.
+fn run(kind: u8, file: &mut File) -> bool
+    ensures { result ≡ is_cap_kind kind }
+{
+    let Ok(kind) = Kind::try_from(kind) else {
+        return false;
+    };
+    let answer = match kind {
+        Kind::Call => calls::call_case(file),
+        Kind::Parts => parts::parts_case(file),
+    };
+    cap_text::print(answer);
+    true
+}
+
 fn main(rt: HostRuntime) {
-    let mut count = [0u8; 2];
-    let cases = File::open(&rt, "cases.bin").ok();
-    let file = host::descriptor(&cases);
-    io::read_full(file, &mut count);
-    let mut left = words::read_u16(&count, 0);
-    while 0 < left {
-        let mut kind = [0u8; 1];
-        io::read_full(file, &mut kind);
-        if !run(kind[0], file) {
-            io::write_all(STDOUT, b"unknown kind\n");
-        }
-        left -= 1;
-    }
+    records::run_cases(&rt, run);
 }

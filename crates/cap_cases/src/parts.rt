@@ -1,9 +1,10 @@
-// Cases of a log in parts: labels so many times over, and then others; for each the line of the answer.
+// Cases of a log in parts: labels so many times over, and then others.
 ghost use Rattle.std.specs.Prelude.{List, ◌++◌, ℕ, ◌*◌, ◌<◌, ◌^◌, length};
 ghost use Rattle.cap.specs.View.{Watching, Feeds, Checks};
 ghost use Rattle.cap_cases.specs.Kinds.{repeated};
 
 use cap::{Answer, Cap, Watch};
+use std::fs::File;
 
 // What is known after labels so many times over.
 fn feed_times(cap: Cap, before: Watch, labels: &[u8], times: u32) -> Watch
@@ -11,10 +12,8 @@ fn feed_times(cap: Cap, before: Watch, labels: &[u8], times: u32) -> Watch
     ensures { Feeds cap before (repeated times labels.now) result }
 {
     let mut after = before;
-    let mut made = 0;
-    while made < times {
+    for _made in 0..times {
         after = cap::feed(cap, after, labels);
-        made += 1;
     }
     after
 }
@@ -31,16 +30,15 @@ fn check_parts(
     requires { (length labels.now < 2 ^ 17) × (length others.now < 2 ^ 17) }
     ensures { Checks plan.now (repeated times labels.now ++ others.now) slots work result }
 {
-    let begun = cap::begin(plan, slots, work);
-    let cap = begun.cap;
-    let middle = feed_times(cap, begun.watch, labels, times);
-    let end = cap::feed(cap, middle, others);
+    let begun = cap::begin(plan, slots, work)?;
+    let middle = feed_times(begun.cap, begun.watch, labels, times);
+    let end = cap::feed(begun.cap, middle, others);
     end.answer
 }
 
-// Reads a plan, the slots and the work of a cap in eight bytes each, a number of times in four, and two lists of labels, and writes the line of
-// what is answered for the first so many times over and the second behind it.
-pub fn parts_case(file: i32) -> Answer
+// Reads a plan, the slots and the work of a cap in eight bytes each, a number of times in four, and two lists of labels, and gives what is
+// answered for the first so many times over and the second behind it.
+pub fn parts_case(file: &mut File) -> Answer
     ensures { (plan labels : List ℕ) × (slots : ℕ) × (work : ℕ) × Checks plan labels slots work result }
 {
     let mut plan = io::large_buffer();
@@ -54,7 +52,5 @@ pub fn parts_case(file: i32) -> Answer
     let slots = words::read_u64(&numbers, 0);
     let work = words::read_u64(&numbers, 8);
     let times = words::read_u32(&numbers, 16);
-    let answer = check_parts(&plan[..p], slots, work, &labels[..n], times, &others[..m]);
-    cap_text::print(answer);
-    answer
+    check_parts(&plan[..p], slots, work, &labels[..n], times, &others[..m])
 }

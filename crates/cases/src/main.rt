@@ -7,11 +7,10 @@ ghost use Rattle.plan_cases.specs.Kinds.{is_plan_kind};
 ghost use Rattle.edition_cases.specs.Kinds.{is_edition_kind};
 ghost use Rattle.certificate_cases.specs.Kinds.{is_certificate_kind};
 
-use host::STDOUT;
 use std::fs::File;
 
 // Runs the next case of the file if its kind is known, and answers whether it is.
-fn run(kind: u8, file: i32) -> bool
+fn run(kind: u8, file: &mut File) -> bool
     ensures { result ≡ (is_plan_kind kind || is_edition_kind kind || is_certificate_kind kind) }
 {
     if plan_cases::run(kind, file) {
@@ -24,17 +23,5 @@ fn run(kind: u8, file: i32) -> bool
 }
 
 fn main(rt: HostRuntime) {
-    let mut count = [0u8; 2];
-    let cases = File::open(&rt, "cases.bin").ok();
-    let file = host::descriptor(&cases);
-    io::read_full(file, &mut count);
-    let mut left = words::read_u16(&count, 0);
-    while 0 < left {
-        let mut kind = [0u8; 1];
-        io::read_full(file, &mut kind);
-        if !run(kind[0], file) {
-            io::write_all(STDOUT, b"unknown kind\n");
-        }
-        left -= 1;
-    }
+    records::run_cases(&rt, run);
 }

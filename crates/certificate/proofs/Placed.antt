@@ -1,5 +1,7 @@
 -- The lists of a certificate stand within the bytes that it was read from.
 -- Assumes nothing.
+use Rattle.std.specs.Prelude as rust
+use Rattle.std.specs.Prelude.{None, Some}
 use mathlib.Core.Path.{◌≡◌, refl, sym, ap, ◌∙◌, subst}
 use mathlib.Core.Bool.{Bool, true, false, cond, ◌&&◌}
 use mathlib.Core.Logic.{◌⊎◌, inl, inr, ⊎_elim}
@@ -27,8 +29,6 @@ use Rattle.words.proofs.Packed.{unpacked-packed}
 use Rattle.words.proofs.Words.{drop-bytes}
 use Rattle.theory.proofs.Reread.{cons-some, masks_fit, masks-part, steps-few}
 use Rattle.certificate.specs.declared.Parts.{Parts}
-use Rattle.certificate.specs.declared.Form.{Form}
-use Rattle.certificate.specs.declared.Form.TheVariants.{Fault, Read}
 use Rattle.certificate.specs.View.{head_command, step_command, potential_command, node_command, masks_width, head_size, potential_size, cycle_size, step_size, potential_in, step_in, p_in, q_in, potential_count_in, cycle_node_in, items, potentials_in, steps_in, certificate_of, form_of, steps_place, parts_of, in_place, IsRead, HasPotential, step_at}
 use Rattle.certificate.proofs.Runs.{Reached, reached-start, reached-next, reached-all, reached-fault, has_room, potential-next, potential-fault, items-length, items_at}
 
@@ -211,19 +211,19 @@ certificate_placed e bs c is =
     let w = placed e bs c is in
     λ i. record { p = c.p; q = c.q; potentials = sym w.potentials i; node = c.node; steps = sym w.steps i }
 
--- what was read, where the form is known
-pub read_as : (e : Edition) (bs : List ℕ) {f g : Form} → f ≡ in_place (read_certificate_in e bs) → f ≡ g → read_certificate_in e bs ≡ form_of e bs g
+-- what was read, where the answer is known
+pub read_as : (e : Edition) (bs : List ℕ) {f g : rust.Option Parts} → f ≡ in_place (read_certificate_in e bs) → f ≡ g → read_certificate_in e bs ≡ form_of e bs g
 read_as e bs {f} {g} is k = by (read_certificate_in e bs) refl ∙ ap (form_of e bs) (sym is ∙ k)
   where
     by : (o : Option Certificate) → read_certificate_in e bs ≡ o → read_certificate_in e bs ≡ form_of e bs (in_place (read_certificate_in e bs))
     by none r = r ∙ ap (λ o. form_of e bs (in_place o)) (sym r)
     by (some c) r = r ∙ ap some (sym (certificate_placed e bs c r)) ∙ ap (λ o. form_of e bs (in_place o)) (sym r)
 
-abbrev place_in : Form → ℕ
-place_in Fault = 0
-place_in (Read c) = c.from
+abbrev place_in : rust.Option Parts → ℕ
+place_in None = 0
+place_in (Some c) = c.from
 
-pub is_read : (e : Edition) (bs : List ℕ) {f : Form} {c : Parts} → f ≡ in_place (read_certificate_in e bs) → f ≡ Read c → IsRead e bs c
+pub is_read : (e : Edition) (bs : List ℕ) {f : rust.Option Parts} {c : Parts} → f ≡ in_place (read_certificate_in e bs) → f ≡ Some c → IsRead e bs c
 is_read e bs is k = let same = read_as e bs is k in record { read = same; place = ap place_in (sym k ∙ is ∙ ap in_place same) }
 
 -- a potential stands within the bytes

@@ -1,17 +1,16 @@
--- What the structs and enums of the form stand for.
-use Rattle.std.specs.Prelude.{◌≡◌, ◌⊎◌, ℕ, ◌+◌, ◌*◌, ◌≤◌, ◌<◌, cond, List, [], map, eqb, ℤ, length, get_or, drop}
+-- What the structs of the form stand for.
+use Rattle.std.specs.Prelude as rust
+use Rattle.std.specs.Prelude.{◌≡◌, ◌⊎◌, None, Some, MatchOption, ℕ, ◌+◌, ◌*◌, ◌≤◌, ◌<◌, cond, List, [], map, eqb, ℤ, length, get_or, drop}
 use Rattle.std.proofs.Math.Option.{Option, none, some}
 use Rattle.model.specs.Limits.{max_tasks, max_steps}
 use Rattle.model.specs.Edition.{Edition, long_reads}
 use Rattle.model.specs.Lists.{up_from}
 use Rattle.model.specs.Bytes.{number, signed, part}
-use Rattle.model.specs.Certificate.{Certificate, Step, Parsed, has, step_width, masks_at, is_end, with_steps, read_steps, read_certificate_in, read_certificate}
+use Rattle.model.specs.Certificate.{Certificate, Step, Parsed, has, step_width, masks_at, with_steps, read_potentials, read_steps, read_certificate_in, read_certificate}
 use Rattle.node.specs.declared.Edition as node
 use Rattle.certificate.specs.declared.Parts.{Parts}
-use Rattle.certificate.specs.declared.Form.{Form}
-use Rattle.certificate.specs.declared.Form.TheVariants.{Fault, Read}
+use Rattle.certificate.specs.declared.Reader.{Reader}
 use Rattle.certificate.specs.declared.Run.{Run}
-use Rattle.certificate.specs.declared.Run.TheVariants as run
 
 -- an edition that the reader knows: a mask is one byte or two
 abbrev pub MasksLegible : node.Edition → Type 0
@@ -85,11 +84,11 @@ steps_in e bs from n = items (step_in e bs) from (step_width e) n
 
 -- the certificate with these parts of the bytes
 abbrev pub certificate_of : Edition → List ℕ → Parts → Certificate
-certificate_of e bs c = record { p = c.p; q = c.q; potentials = potentials_in bs c.count; node = c.node; steps = steps_in e bs c.from c.steps }
+certificate_of e bs c = record { p = c.fraction.p; q = c.fraction.q; potentials = potentials_in bs c.count; node = c.node; steps = steps_in e bs c.from c.steps }
 
-abbrev pub form_of : Edition → List ℕ → Form → Option Certificate
-form_of e bs Fault = none
-form_of e bs (Read c) = some (certificate_of e bs c)
+abbrev pub form_of : Edition → List ℕ → rust.Option Parts → Option Certificate
+form_of e bs None = none
+form_of e bs (Some c) = some (certificate_of e bs c)
 
 -- where a certificate's steps begin: after the potentials, and where there is a cycle after its head
 abbrev pub steps_place : Certificate → ℕ
@@ -97,11 +96,11 @@ steps_place c = head_size + potential_size * length c.potentials + cond (eqb c.q
 
 -- its parts
 abbrev pub parts_of : Certificate → Parts
-parts_of c = record { p = c.p; q = c.q; count = length c.potentials; node = c.node; from = steps_place c; steps = length c.steps }
+parts_of c = record { fraction = record { p = c.p; q = c.q }; count = length c.potentials; node = c.node; from = steps_place c; steps = length c.steps }
 
-abbrev pub in_place : Option Certificate → Form
-in_place none = Fault
-in_place (some c) = Read (parts_of c)
+abbrev pub in_place : Option Certificate → rust.Option Parts
+in_place none = None
+in_place (some c) = Some (parts_of c)
 
 -- the bytes of an edition are the certificate with these parts, and its steps stand where they were read
 pub record IsRead (e : Edition) (bs : List ℕ) (c : Parts) : Type 0 where
@@ -118,24 +117,27 @@ pub record HasPotential (bs : List ℕ) (i : ℕ) : Type 0 where
 abbrev pub step_at : List Step → ℕ → Step
 step_at ss j = get_or ss j (record { label = 0; masks = [] })
 
--- the items of a run, and the bytes after them
-abbrev pub run_of : {A : Type 0} → List ℕ → (ℕ → A) → ℕ → ℕ → Run → Option (Parsed (List A))
-run_of bs item from size run.Fault = none
-run_of bs item from size (run.Items n cursor) = some (record { value = items item from size n; rest = drop cursor.at bs })
+-- a reader after n items of a size, within the bytes
+pub record Past (bs : List ℕ) (from size n : ℕ) (r : Reader) : Type 0 where
+  pub bytes : r.src.now ≡ bs
+  pub place : r.at ≡ from + size * n
+  pub inside : r.at ≤ length bs
 
--- a run ends after its items, within the bytes
-abbrev pub Inside : List ℕ → ℕ → ℕ → Run → Type 0
-Inside bs from size run.Fault = Unit {0}
-Inside bs from size (run.Items n cursor) = (cursor.at ≡ from + size * n) × (cursor.at ≤ length bs)
+-- the n items of a size from a place on, and the bytes from where they end
+abbrev pub parsed : {A : Type 0} → List ℕ → (ℕ → A) → ℕ → ℕ → ℕ → ℕ → Option (Parsed (List A))
+parsed bs item from size n end = some (record { value = items item from size n; rest = drop end bs })
+
+-- n potentials from a place on, and the reader after them
+abbrev pub PotentialsRead : List ℕ → ℕ → ℕ → rust.Option Reader → Type 0
+PotentialsRead bs from n o =
+    let read = read_potentials n (drop from bs) in
+    MatchOption o (none ≡ read) (λ r. Past bs from potential_size n r × (parsed bs (potential_in bs) from potential_size n r.at ≡ read))
 
 -- the steps of an edition from a place on, as many as a cycle has at most
-pub record StepsRead (e : Edition) (bs : List ℕ) (from : ℕ) (r : Run) : Type 0 where
-  pub inside : Inside bs from (step_width e) r
-  pub read : run_of bs (step_in e bs) from (step_width e) r ≡ read_steps e max_steps (drop from bs)
-
--- the parts, where the end stands at a place and nothing after it
-abbrev pub ended_at : List ℕ → ℕ → Parts → Form
-ended_at bs at c = cond (is_end (drop at bs)) (Read c) Fault
+abbrev pub StepsRead : Edition → List ℕ → ℕ → rust.Option Run → Type 0
+StepsRead e bs from o =
+    let read = read_steps e max_steps (drop from bs) in
+    MatchOption o (none ≡ read) (λ r. Past bs from (step_width e) r.items r.end × (parsed bs (step_in e bs) from (step_width e) r.items r.end.at ≡ read))
 
 -- the certificate whose cycle starts at a place, after n potentials
 abbrev pub cycle_from : Edition → List ℕ → ℕ → ℕ → ℕ → ℕ → Option Certificate

@@ -8,14 +8,16 @@ ghost use Rattle.model.specs.Certificate.{step_bytes};
 ghost use Rattle.certificate.specs.View.{potential_command, potential_width, head_size, potential_size, cycle_size, step_size};
 ghost use Rattle.certificate_bytes.specs.Pieces.{head_bytes, node_bytes, packed_step, end_bytes};
 
+use fraction::Fraction;
+
 // Writes the head, for n potentials.
-pub fn write_head(out: &mut [u8], p: u32, q: u32, n: u16)
+pub fn write_head(out: &mut [u8], fraction: Fraction, n: u16)
     requires { head_size ≤ length out.old }
-    ensures { out.new ≡ overwrite out.old 0 (head_bytes p q n) }
+    ensures { out.new ≡ overwrite out.old 0 (head_bytes fraction.p fraction.q n) }
 {
     out[0] = 0x11;
-    words::write_u32(out, 1, p);
-    words::write_u32(out, 5, q);
+    words::write_u32(out, 1, fraction.p);
+    words::write_u32(out, 5, fraction.q);
     words::write_u16(out, 9, n);
 }
 

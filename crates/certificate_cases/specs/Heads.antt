@@ -2,8 +2,7 @@
 use Rattle.std.specs.Prelude.{Bool, List, ℕ, length, take}
 use Rattle.model.specs.Limits.{work_room, certificate_room}
 use Rattle.model.specs.Solve.{solve}
-use Rattle.solver.specs.declared.Answer.{Answer}
-use Rattle.solver.specs.Promise.{Solves}
+use Rattle.solver.specs.Promise.{Answer, Solves}
 use Rattle.records.specs.Begins.{Begins}
 use Rattle.solve_text.specs.Bytes.{in_bytes, in_passes, Puts}
 

@@ -4,6 +4,7 @@ ghost use Rattle.std.specs.Prelude.{List, ℕ};
 ghost use Rattle.certificate_cases.specs.Heads.{Called};
 
 use host::STDOUT;
+use std::fs::File;
 
 // Writes what the solve call tells and whether its output begins with the head, and answers the latter.
 fn write_call(plan: &[u8], head: &[u8], work: &mut [u8], out: &mut [u8]) -> bool
@@ -16,7 +17,7 @@ fn write_call(plan: &[u8], head: &[u8], work: &mut [u8], out: &mut [u8]) -> bool
 }
 
 // Reads a plan, a head and two numbers of eight bytes, and writes both lines.
-pub fn call_case(file: i32) -> bool
+pub fn call_case(file: &mut File) -> bool
     ensures { (plan head work work' out out' : List ℕ) × Called plan head work work' out out' result }
 {
     let mut plan = io::large_buffer();

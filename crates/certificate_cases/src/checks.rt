@@ -5,6 +5,7 @@ ghost use Rattle.model.specs.Limits.{work_room};
 ghost use Rattle.model.specs.Text.{check_text};
 
 use host::STDOUT;
+use std::fs::File;
 
 // Writes the line of a certificate checked against a plan, and answers its length.
 pub fn write_check(plan: &[u8], certificate: &[u8]) -> usize
@@ -18,7 +19,7 @@ pub fn write_check(plan: &[u8], certificate: &[u8]) -> usize
 }
 
 // Reads a plan and a certificate, and writes the line of the check.
-pub fn check_case(file: i32) -> usize
+pub fn check_case(file: &mut File) -> usize
     ensures { (plan : List ℕ) × (certificate : List ℕ) × (result ≡ length (check_text (check plan certificate work_room))) }
 {
     let mut plan = io::large_buffer();

@@ -6,38 +6,56 @@ pub mod checks; // checks.rt: a plan and a certificate
 pub mod passes; // passes.rt: a plan, for the number of its passes
 pub mod solves; // solves.rt: a plan and the head of its certificate
 
-ghost use Rattle.std.specs.Prelude.{◌≡◌};
+ghost use Rattle.std.specs.Prelude.{◌≡◌, true, false, MatchResult};
 ghost use Rattle.certificate_cases.specs.Kinds.{is_certificate_kind};
 
-const CHECK: u8 = 3;
+use std::fs::File;
 
-const SOLVE: u8 = 4;
+// The kinds by their numbers.
+#[derive(Clone, Copy, Debug, PartialEq, Eq)]
+enum Kind {
+    Check = 3,
+    Solve = 4,
+    Passes = 7,
+    Call = 8,
+}
 
-const PASSES: u8 = 7;
+impl TryFrom<u8> for Kind {
+    type Error = ();
 
-const CALL: u8 = 8;
+    fn try_from(kind: u8) -> Result<Kind, ()>
+        ensures { MatchResult result (λ k. is_certificate_kind kind ≡ true) (λ e. is_certificate_kind kind ≡ false) }
+    {
+        match kind {
+            3 => Ok(Kind::Check),
+            4 => Ok(Kind::Solve),
+            7 => Ok(Kind::Passes),
+            8 => Ok(Kind::Call),
+            _ => Err(()),
+        }
+    }
+}
 
 // Runs the next case of the file if its kind is one of these, and answers whether it is.
-pub fn run(kind: u8, file: i32) -> bool
+pub fn run(kind: u8, file: &mut File) -> bool
     ensures { result ≡ is_certificate_kind kind }
 {
+    let Ok(kind) = Kind::try_from(kind) else {
+        return false;
+    };
     match kind {
-        CHECK => {
+        Kind::Check => {
             checks::check_case(file);
-            true
         }
-        SOLVE => {
+        Kind::Solve => {
             solves::solve_case(file);
-            true
         }
-        PASSES => {
+        Kind::Passes => {
             passes::passes_case(file);
-            true
         }
-        CALL => {
+        Kind::Call => {
             calls::call_case(file);
-            true
         }
-        _ => false,
     }
+    true
 }

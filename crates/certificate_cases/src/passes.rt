@@ -3,6 +3,7 @@ ghost use Rattle.std.specs.Prelude.{List, ℕ};
 ghost use Rattle.certificate_cases.specs.Heads.{PassesLine};
 
 use host::STDOUT;
+use std::fs::File;
 
 // Writes the line of the number of passes for a plan's fraction, and answers its length.
 fn write_passes(plan: &[u8]) -> usize
@@ -15,7 +16,7 @@ fn write_passes(plan: &[u8]) -> usize
 }
 
 // Reads a plan, and writes the line of its number of passes.
-pub fn passes_case(file: i32) -> usize
+pub fn passes_case(file: &mut File) -> usize
     ensures { (plan : List ℕ) × PassesLine plan result }
 {
     let mut plan = io::large_buffer();

@@ -6,6 +6,7 @@ ghost use Rattle.certificate_cases.specs.Heads.{Compared};
 
 use super::checks;
 use host::STDOUT;
+use std::fs::File;
 
 // The first byte of every certificate; the line of a refusal begins with another.
 const FIRST: u8 = 0x11;
@@ -26,7 +27,7 @@ fn write_solution(plan: &[u8], head: &[u8]) -> bool
 }
 
 // Reads a plan and a head, and writes both lines.
-pub fn solve_case(file: i32) -> bool
+pub fn solve_case(file: &mut File) -> bool
     ensures { (plan : List ℕ) × (head : List ℕ) × Compared plan head result }
 {
     let mut plan = io::large_buffer();

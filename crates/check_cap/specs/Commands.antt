@@ -1,14 +1,11 @@
 -- What the program's arguments ask for, and what it then writes.
+use Rattle.std.specs.Prelude as rust
+use Rattle.std.specs.Prelude.{Ok, Err, Some, None}
+use Rattle.std.specs.Option.{option_zip}
 use Rattle.std.specs.Prelude.{◌≡◌, Bool, false, List, [], ◌∷◌, ℕ, eqb, length}
 use Rattle.model.specs.Text.{cap_text}
 use Rattle.arguments.specs.Decimal.{decimal_in, number_of}
-use Rattle.arguments.specs.declared.Number.{Number}
-use Rattle.arguments.specs.declared.Number.TheVariants.{Nothing, Of}
-use Rattle.cap.specs.View.{answer_of, Checks}
-use Rattle.cap.specs.declared.Answer.{Answer}
-use Rattle.cap.specs.declared.Answer.TheVariants.{Refused, Over, Kept}
-use Rattle.check_cap.specs.declared.Command.{Command}
-use Rattle.check_cap.specs.declared.Command.TheVariants as command
+use Rattle.cap.specs.View.{Answer, answer_of, Checks}
 
 -- how many labels are read at a time, and the most parts
 abbrev pub part_bytes : ℕ
@@ -19,24 +16,18 @@ most_parts = 281474976710655
 
 -- the log is read on after a part of so many labels: it was full, and no answer is told
 abbrev pub goes_on : Answer → ℕ → Bool
-goes_on Kept count = eqb count part_bytes
-goes_on (Over t) count = false
-goes_on (Refused r) count = false
+goes_on (Ok None) count = eqb count part_bytes
+goes_on (Ok (Some t)) count = false
+goes_on (Err r) count = false
 
--- the slots and the work of a cap
-abbrev pub counted_is : Number → Number → Command
-counted_is Nothing work = command.Unknown
-counted_is (Of k) Nothing = command.Unknown
-counted_is (Of k) (Of w) = command.Check k w
-
--- the arguments behind the program's name
-abbrev pub command_is : List (List ℕ) → Command
-command_is [] = command.Unknown
-command_is (k ∷ []) = command.Unknown
-command_is (k ∷ w ∷ []) = counted_is (number_of (decimal_in k)) (number_of (decimal_in w))
-command_is (k ∷ w ∷ more ∷ rest) = command.Unknown
+-- the slots and the work of a cap, by the arguments behind the program's name
+abbrev pub command_is : List (List ℕ) → rust.Option (ℕ × ℕ)
+command_is [] = None
+command_is (k ∷ []) = None
+command_is (k ∷ w ∷ []) = option_zip (number_of (decimal_in k)) (number_of (decimal_in w))
+command_is (k ∷ w ∷ more ∷ rest) = None
 
 -- so many bytes are written, the line of the answer for the plan and the log that it reads; for arguments that are none nothing is
-abbrev pub Runs : Command → ℕ → Type 0
-Runs (command.Check k w) n = (plan labels : List ℕ) × (answer : Answer) × Checks plan labels k w answer × (n ≡ length (cap_text (answer_of answer)))
-Runs command.Unknown n = n ≡ 0
+abbrev pub Runs : rust.Option (ℕ × ℕ) → ℕ → Type 0
+Runs (Some p) n = (plan labels : List ℕ) × (answer : Answer) × Checks plan labels p.0 p.1 answer × (n ≡ length (cap_text (answer_of answer)))
+Runs None n = n ≡ 0

@@ -6,9 +6,8 @@
 
 ghost use Rattle.std.specs.Prelude.{◌≡◌, List, ℕ, ◌*◌, ◌≤◌, length};
 ghost use Rattle.cap.specs.View.{Watching, Feeds, Checks};
-ghost use Rattle.check_cap.specs.Commands.{goes_on, part_bytes, most_parts, counted_is, command_is, Runs};
+ghost use Rattle.check_cap.specs.Commands.{goes_on, part_bytes, most_parts, command_is, Runs};
 
-use arguments::Number;
 use cap::{Answer, Cap, Watch};
 use host::STDERR;
 use std::env::Env;
@@ -18,15 +17,8 @@ use std::rt::Files;
 // How many labels are read at a time.
 const PART: usize = 65536;
 
-// A proved loop has to end, and nothing says that a file does: the parts are counted down from a number that no run uses up.
+// A proved loop has to end, and nothing says that a file does: no run uses up so many parts.
 const MOST_PARTS: u64 = 281474976710655;
-
-// What the program is asked for: a cap of so many slots and so much work.
-#[derive(Clone, Copy)]
-enum Command {
-    Check(u64, u64),
-    Unknown,
-}
 
 // What is known after a part of the log, and how many labels the part had.
 #[derive(Clone, Copy)]
@@ -36,12 +28,12 @@ struct PartFed {
 }
 
 // Reads the next part of the log.
-fn feed_part(fd: i32, cap: Cap, before: Watch) -> PartFed
+fn feed_part(log: &mut Option<File>, cap: Cap, before: Watch) -> PartFed
     requires { Watching cap before part_bytes }
     ensures { (labels : List ℕ) × (result.count ≡ length labels) × (length labels ≤ part_bytes) × Feeds cap before labels result.watch }
 {
     let mut labels = io::large_buffer();
-    let count = io::read_full(fd, &mut labels);
+    let count = host::read_part(log, &mut labels);
     let watch = cap::feed(cap, before, &labels[..count]);
     PartFed { watch, count }
 }
@@ -50,31 +42,21 @@ fn feed_part(fd: i32, cap: Cap, before: Watch) -> PartFed
 fn goes_on(after: Watch, count: usize) -> bool
     ensures { result ≡ goes_on after.answer count }
 {
-    if count != PART {
-        return false;
-    }
-    let answer = after.answer;
-    match answer {
-        Answer::Kept => true,
-        Answer::Over(t) => false,
-        Answer::Refused(r) => false,
-    }
+    count == PART && matches!(after.answer, Ok(None))
 }
 
 // Reads the log to its end, or up to the part that tells the answer.
-fn feed_parts(fd: i32, cap: Cap, before: Watch) -> Watch
+fn feed_parts(log: &mut Option<File>, cap: Cap, before: Watch) -> Watch
     requires { Watching cap before (most_parts * part_bytes) }
     ensures { (labels : List ℕ) × Feeds cap before labels result }
 {
     let mut after = before;
-    let mut parts = MOST_PARTS;
-    while parts > 0 {
-        let fed = feed_part(fd, cap, after);
+    for _part in 0..MOST_PARTS {
+        let fed = feed_part(log, cap, after);
         after = fed.watch;
         if !goes_on(after, fed.count) {
             return after;
         }
-        parts -= 1;
     }
     after
 }
@@ -85,34 +67,20 @@ fn check<R: Files<File = File>>(rt: &R, slots: u64, work: u64) -> Answer
 {
     let mut plan = io::large_buffer();
     let length = host::read_file(rt, "plan.bin", &mut plan);
-    let begun = cap::begin(&plan[..length], slots, work);
-    let cap = begun.cap;
-    let labels = File::open(rt, "labels.bin").ok();
-    let watch = feed_parts(host::descriptor(&labels), cap, begun.watch);
+    let begun = cap::begin(&plan[..length], slots, work)?;
+    let mut labels = File::open(rt, "labels.bin").ok();
+    let watch = feed_parts(&mut labels, begun.cap, begun.watch);
     watch.answer
 }
 
-// The command of two arguments that should be numbers.
-fn counted(slots: Number, work: Number) -> Command
-    ensures { result ≡ counted_is slots work }
-{
-    let Number::Of(k) = slots else {
-        return Command::Unknown;
-    };
-    let Number::Of(w) = work else {
-        return Command::Unknown;
-    };
-    Command::Check(k, w)
-}
-
-// The command that the arguments are.
-fn asked<E: Env>(rt: &E) -> Command
+// The slots and the work of the cap that the arguments ask for.
+fn asked<E: Env>(rt: &E) -> Option<(u64, u64)>
     ensures { (arguments : List (List ℕ)) × (result ≡ command_is arguments) }
 {
     if host::argument_count(rt, 4) != 3 {
-        return Command::Unknown;
+        return None;
     }
-    counted(arguments::number_at(rt, 1), arguments::number_at(rt, 2))
+    arguments::number_at(rt, 1).zip(arguments::number_at(rt, 2))
 }
 
 // Tells how the program is called, and that nothing was written to standard output.
@@ -123,13 +91,13 @@ fn usage() -> usize
     0
 }
 
-// Runs a command, and answers the number of bytes written.
-fn run<R: Files<File = File>>(rt: &R, command: Command) -> usize
-    ensures { Runs command result }
+// Checks the cap asked for, and answers the number of bytes written.
+fn run<R: Files<File = File>>(rt: &R, asked: Option<(u64, u64)>) -> usize
+    ensures { Runs asked result }
 {
-    match command {
-        Command::Check(slots, work) => cap_text::print(check(rt, slots, work)),
-        Command::Unknown => usage(),
+    match asked {
+        Some((slots, work)) => cap_text::print(check(rt, slots, work)),
+        None => usage(),
     }
 }
 

@@ -10,8 +10,8 @@ ghost use Rattle.model.specs.Limits.{work_room};
 ghost use Rattle.model.specs.Text.{thousandths_text, check_text};
 ghost use Rattle.check_text.specs.Line.{number_room, line_room};
 
-use checker::Answer;
-use fraction::Permille;
+use checker::Share;
+use fraction::Fraction;
 
 // Room for the line of a check.
 pub fn line_room() -> [u8; 128]
@@ -21,26 +21,29 @@ pub fn line_room() -> [u8; 128]
 }
 
 // Writes the thousandths of a fraction, or `none`.
-fn put_thousandths(out: &mut [u8], at: usize, p: u32, q: u32) -> usize
+fn put_thousandths(out: &mut [u8], at: usize, fraction: Fraction) -> usize
     requires { at + number_room ≤ length out.old }
-    ensures put { Put out.old out.new at (thousandths_text (thousandths p q)) result }
+    ensures put { Put out.old out.new at (thousandths_text (thousandths fraction.p fraction.q)) result }
     ensures upper_bound { result ≤ at + number_room }
 {
-    match fraction::thousandths(p, q) {
-        Permille::None => text::put_bytes(out, at, b"none"),
-        Permille::Some(m) => text::put_number(out, at, m),
+    match fraction.thousandths() {
+        None => text::put_bytes(out, at, b"none"),
+        Some(m) => text::put_number(out, at, m),
     }
 }
 
 // Writes p, q, N, K and the thousandths.
-fn put_share(out: &mut [u8], p: u32, q: u32, n: usize, k: u64) -> usize
+fn put_share(out: &mut [u8], answer: Share) -> usize
     requires { line_room ≤ length out.old }
-    ensures put { Put out.old out.new 0 (check_text (share p q n k)) result }
+    ensures put { Put out.old out.new 0 (check_text (share answer.fraction.p answer.fraction.q answer.n answer.k)) result }
     ensures upper_bound { result ≤ line_room }
 {
-    let a = text::put_three_fields(out, 0, p as u64, q as u64, n as u64);
-    let b = text::put_field(out, a, k);
-    let c = put_thousandths(out, b, p, q);
+    let fraction = answer.fraction;
+    let p = u64::from(fraction.p);
+    let q = u64::from(fraction.q);
+    let a = text::put_three_fields(out, 0, p, q, answer.n as u64);
+    let b = text::put_field(out, a, answer.k);
+    let c = put_thousandths(out, b, fraction);
     text::put_bytes(out, c, b"\n")
 }
 
@@ -52,7 +55,7 @@ pub fn put_check(out: &mut [u8], plan: &[u8], certificate: &[u8], work: &mut [u8
     ensures work_after { work.new ≡ work_after (leb work_room (length work.old)) work.old }
 {
     match checker::check(plan, certificate, work) {
-        Answer::Refused(r) => text::put_refusal(out, r.number()),
-        Answer::Share { p, q, n, k } => put_share(out, p, q, n, k),
+        Err(refusal) => text::put_refusal(out, refusal.number()),
+        Ok(answer) => put_share(out, answer),
     }
 }

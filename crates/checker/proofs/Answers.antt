@@ -1,5 +1,5 @@
 -- The answer of a check, by its tests. Assumes nothing.
-use mathlib.Core.Path.{◌≡◌, refl, sym, ap, ◌∙◌}
+use mathlib.Core.Path.{◌≡◌, refl, sym, ap, subst, ◌∙◌}
 use mathlib.Core.Bool.{Bool, true, false, cond}
 use mathlib.Core.List.{List}
 use mathlib.Core.Option.{none, some, none-ne-some}
@@ -12,11 +12,20 @@ use Rattle.model.specs.Certificate.{read_certificate}
 use Rattle.model.specs.Check.{refused, check_read, check_plan, check}
 use Rattle.model.specs.Graph.{too_large}
 use Rattle.model.specs.Limits.{work_room}
-use Rattle.model.specs.Plan.{Plan, read_plan, sound}
+use Rattle.model.specs.Plan.{Plan, IsSound, read_plan, sound}
 use Rattle.model.specs.Refusals.{too_many_nodes, short_memory}
 use Rattle.theory.proofs.Claim.{check-claim}
-use Rattle.checker.specs.declared.Answer.{Answer}
-use Rattle.checker.specs.Promise.{answer_of, Checks}
+use Rattle.plan.specs.View.{plan_of}
+use Rattle.plan.specs.declared.Plan as plan
+use Rattle.machine.specs.Machine.{MachineOf}
+use Rattle.machine.specs.declared.Machine.{Machine}
+use Rattle.graph.specs.View.{Planned}
+use Rattle.graph.proofs.View.{planned-of}
+use Rattle.checker.specs.Promise.{Answer, answer_of, Checks}
+
+-- a machine's rules and table are its plan's
+pub planned_by : {p : plan.Plan} {m : Machine} → IsSound (plan_of p) → MachineOf p m → Planned (plan_of p) m.rules m.next
+planned_by {p} {m} is_sound of = subst (Planned (plan_of p) m.rules) (sym of.next) (planned-of p m.rules is_sound of.rules)
 
 -- too many, or a number
 pub large : (P : Plan) (n : ℕ) (bs : List ℕ) → none ≡ cond (too_large P) none (some n) → refused too_many_nodes ≡ check_plan (sound P) bs

@@ -1,17 +1,22 @@
 -- What the check call promises.
-use Rattle.std.specs.Prelude.{◌≡◌, List, ℕ, leb, length}
+use Rattle.std.specs.Prelude as rust
+use Rattle.std.specs.Prelude.{◌≡◌, List, ℕ, leb, length, Ok, Err}
 use Rattle.model.specs.Bytes.{work_after}
 use Rattle.model.specs.Check.{CheckAnswer, check}
 use Rattle.model.specs.Limits.{work_room}
 use Rattle.model.specs.Plan as model
 use Rattle.model.specs.Share.{KeptShare}
 use Rattle.refusals.specs.Numbers.{refusal_number}
-use Rattle.checker.specs.declared.Answer.{Answer}
-use Rattle.checker.specs.declared.Answer.TheVariants.{Refused, Share}
+use Rattle.refusals.specs.declared.Refusal.{Refusal}
+use Rattle.checker.specs.declared.Share.{Share}
+
+-- what the check answers: what is so of an accepted certificate, or the refusal
+abbrev pub Answer : Type 0
+Answer = rust.Result Share Refusal
 
 abbrev pub answer_of : Answer → CheckAnswer
-answer_of (Refused r) = CheckAnswer.refused (refusal_number r)
-answer_of (Share p q n k) = CheckAnswer.share p q n k
+answer_of (Err r) = CheckAnswer.refused (refusal_number r)
+answer_of (Ok a) = CheckAnswer.share a.fraction.p a.fraction.q a.n a.k
 
 -- for all plan and certificate bytes and work memory
 pub record Checks (plan certificate before after : List ℕ) (r : Answer) : Type 0 where

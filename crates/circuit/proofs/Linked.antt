@@ -1,9 +1,10 @@
 -- A label that leads from one numbered node to another: the notes of its outcomes have a best edge. Assumes nothing.
 use mathlib.Core.Path.{◌≡◌, sym, ap, subst, ◌∙◌}
 use mathlib.Core.List.{List, ◌++◌, Memᴰ}
-use Prim.Native.Nat.{ℕ, suc, ◌-◌, ◌*◌, ◌^◌, ◌<◌}
+use Prim.Native.Nat.{ℕ, ◌-◌, ◌*◌, ◌^◌, ◌<◌}
 use native.Mathlib.Omega.{arith}
 use lib.ListN.{length, replicate}
+use Rattle.std.specs.Prelude.{Some}
 use Rattle.model.specs.Check.{padded}
 use Rattle.model.specs.Edition.{long_reads}
 use Rattle.model.specs.Graph.{Edge, edges, nodes}
@@ -45,7 +46,7 @@ module _ {P : Plan} {r : Rules} {next m : List ℕ} {n u l v : ℕ} {e : Edge} (
   at = (mem-edges_at P (node_at P u) l e).0 t.best.edge
 
   -- the label is admitted there
-  leads : Leads P r next m n u node l (suc at.next)
+  leads : Leads P r next m n u node l (Some at.next)
   leads = record {
     planned = t.planned;
     holds = t.holds;
@@ -64,7 +65,7 @@ module _ {P : Plan} {r : Rules} {next m : List ℕ} {n u l v : ℕ} {e : Edge} (
       {target : Node} → target ≡ node_in (row_at m v) → NotedBest P u l v wanted notes d target.taken
   linked-noted ruled {wanted} {notes = notes} {d = d} reaches to =
       subst (λ (w : Node). NotedBest P u l v wanted notes d w.taken) (sym to)
-      (step-noted (record { leads = leads; admitted = omega arith; ruled = ruled; low = linked-taken; wanted = wanted; reaches = reaches }) t.to t.best)
+      (step-noted (record { leads = leads; ruled = ruled; low = linked-taken; wanted = wanted; reaches = reaches }) t.to t.best)
 
 -- the masks of a best edge, packed: one for each task, and then 0 for a task that the plan lacks
 module _ {P : Plan} {r : Rules} {next : List ℕ} (planned : Planned P r next) (ruled : Ruled r) {u l v : ℕ} {e : Edge} (b : Best P u l v e) where
@@ -77,15 +78,15 @@ module _ {P : Plan} {r : Rules} {next : List ℕ} (planned : Planned P r next) (
   member : Memᴰ e (edges P (node_at P u))
   member = best-edge P sd b
 
-  count : length e.masks ≡ r.count
+  count : length e.masks ≡ r.tasks.count
   count = (step-of P (node_at P u) e member).fits.count ∙ ap length planned.for.tasks ∙ ruled.size
 
-  pub packed-low : packed e.masks < field_base ^ r.count
+  pub packed-low : packed e.masks < field_base ^ r.tasks.count
   packed-low =
       subst (λ (k : ℕ). packed e.masks < field_base ^ k) count
       (packed_lt e.masks (λ i. omega (arith, mask_below P max_window windows (node_at P u) e member i)))
 
-  pub packed-padded : padded e.masks ≡ unpacked (packed e.masks * field_base ^ (max_tasks - r.count))
+  pub packed-padded : padded e.masks ≡ unpacked (packed e.masks * field_base ^ (max_tasks - r.tasks.count))
   packed-padded =
       let plain : padded e.masks ≡ e.masks ++ replicate (max_tasks - length e.masks) 0 =
       padded_plain e.masks max_tasks max_tasks (omega (arith, count, ruled.tasks.count, ruled.size)) (omega arith) in

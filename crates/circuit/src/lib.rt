@@ -1,22 +1,19 @@
-// A cycle of steps in lent memory: the gains of its best edges, the fraction in lowest terms, and its steps in a certificate.
+// A cycle of steps in lent memory: the gains of its best edges, and its steps in a certificate.
 #![tactic(auto)]
 
-ghost use Rattle.std.specs.Prelude.{◌≡◌, List, ℕ, ◌+◌, ◌*◌, ◌/◌, ◌≤◌, ◌<◌, length};
-ghost use Rattle.model.specs.Check as check_model;
+ghost use Rattle.std.specs.Prelude.{◌≡◌, List, ℕ, ◌+◌, ◌*◌, ◌≤◌, ◌<◌, length};
 ghost use Rattle.model.specs.Graph as model;
 ghost use Rattle.model.specs.Limits.{max_steps};
 ghost use Rattle.model.specs.Plan.{Plan};
 ghost use Rattle.model.specs.Walk as walk_model;
 ghost use Rattle.certificate.specs.View.{step_size};
-ghost use Rattle.policy.specs.View.{Ruled};
-ghost use Rattle.graph.specs.Outcomes.{note_room, NotesFree};
 ghost use Rattle.store.specs.Store.{max_rows, store_bytes, row_at};
 ghost use Rattle.discovery.specs.Discovery.{node_in};
 ghost use Rattle.links.specs.Links.{links_end, taken_in};
 ghost use Rattle.circuit.specs.Circuit.{Linked, Linking, StandsFor, node_after, Turns, Turning, Writes};
 
+use machine::Machine;
 use node::Node;
-use policy::Rules;
 
 // A best edge of a label between two nodes: both gains, and the masks, packed.
 #[derive(Clone, Copy)]
@@ -34,44 +31,35 @@ pub struct Sums {
     pub ideal: u32,
 }
 
-#[derive(Clone, Copy)]
-pub struct Fraction {
-    pub p: u32,
-    pub q: u32,
-}
-
 // The node with a number.
 fn node_at(m: &[u8], u: usize) -> Node
     requires { (u < max_rows) × (store_bytes ≤ length m.now) }
     ensures { result ≡ node_in (row_at m.now u) }
 {
-    discovery::node_of(store::row(m, u))
+    discovery::node_of(&store::row(m, u))
 }
 
 // A best edge of a label from one node to another, by the outcome noted for the other's pattern.
 fn best_edge(
-    rules: Rules,
+    machine: &Machine,
     from: usize,
     label: u8,
     to: usize,
     notes: &mut [u32; graph::NOTE_ROOM],
     m: &[u8],
 ) -> BestEdge
-    requires { Ruled rules × Linking rules m.now from label to × (note_room ≤ length notes.old) }
-    ensures stands_for { (P : Plan) (next : List ℕ) (n : ℕ) (e : model.Edge) → Linked P rules next m.now n from label to e → StandsFor P from label to result }
-    ensures notes_free { NotesFree notes.old notes.new }
+    requires { Linking machine.now.rules m.now from label to }
+    ensures { (P : Plan) (next : List ℕ) (n : ℕ) (e : model.Edge) → Linked P machine.now.rules next m.now n from label to e → StandsFor P from label to result }
 {
     let node = node_at(m, from);
     let target = node_at(m, to);
     let wanted = target.taken;
-    let noted = graph::reach(rules, node, label, wanted, notes);
-    let done = noted.done;
-    let kept = done.gain as u32;
+    let noted = graph::reach(machine, &node, label, Some(wanted), notes);
     let ideal = graph::best_score(notes, wanted as usize) - 1;
-    let masks = graph::best_masks(notes, rules.count);
+    let masks = graph::best_masks(notes, machine.rules.tasks.count);
     BestEdge {
         label,
-        kept,
+        kept: u32::from(noted.done.gain),
         ideal,
         masks,
     }
@@ -90,68 +78,49 @@ fn next_node(m: &[u8], k: usize, i: usize) -> usize
 
 // A best edge of the step i of k.
 fn step_edge(
-    rules: Rules,
+    machine: &Machine,
     k: usize,
     i: usize,
     notes: &mut [u32; graph::NOTE_ROOM],
     m: &[u8],
 ) -> BestEdge
-    requires { Ruled rules × Turning rules m.now k × (i < k) × (note_room ≤ length notes.old) }
-    ensures stands_for { (P : Plan) (next : List ℕ) (n v : ℕ) (es : List model.Edge) → Turns P rules next m.now n k v es → StandsFor P (taken_in m.now i).node (taken_in m.now i).label (node_after m.now k i) result }
-    ensures notes_free { NotesFree notes.old notes.new }
+    requires { Turning machine.now.rules m.now k × (i < k) }
+    ensures { (P : Plan) (next : List ℕ) (n v : ℕ) (es : List model.Edge) → Turns P machine.now.rules next m.now n k v es → StandsFor P (taken_in m.now i).node (taken_in m.now i).label (node_after m.now k i) result }
 {
     let step = links::step_at(m, i);
     let to = next_node(m, k, i);
-    best_edge(rules, step.node, step.label, to, notes, m)
+    best_edge(machine, step.node, step.label, to, notes, m)
 }
 
 // The gains of a cycle of k steps.
-pub fn gains(rules: Rules, k: usize, notes: &mut [u32; graph::NOTE_ROOM], m: &[u8]) -> Sums
-    requires { Ruled rules × Turning rules m.now k × (note_room ≤ length notes.old) }
-    ensures kept_value { (P : Plan) (next : List ℕ) (n v : ℕ) (es : List model.Edge) → Turns P rules next m.now n k v es → (result.kept ≡ walk_model.kept es) × (result.ideal ≡ walk_model.ideal es) }
-    ensures notes_free { NotesFree notes.old notes.new }
+pub fn gains(machine: &Machine, k: usize, notes: &mut [u32; graph::NOTE_ROOM], m: &[u8]) -> Sums
+    requires { Turning machine.now.rules m.now k }
+    ensures { (P : Plan) (next : List ℕ) (n v : ℕ) (es : List model.Edge) → Turns P machine.now.rules next m.now n k v es → (result.kept ≡ walk_model.kept es) × (result.ideal ≡ walk_model.ideal es) }
 {
     let mut kept = 0;
     let mut ideal = 0;
-    let mut i = 0;
-    while i < k {
-        let edge = step_edge(rules, k, i, notes, m);
+    for i in 0..k {
+        let edge = step_edge(machine, k, i, notes, m);
         kept += edge.kept;
         ideal += edge.ideal;
-        i += 1;
     }
     Sums { kept, ideal }
 }
 
-// The fraction in lowest terms.
-pub fn lowest(kept: u32, ideal: u32) -> Fraction
-    requires { 0 < ideal }
-    ensures { (result.p ≡ kept / check_model.gcd kept ideal) × (result.q ≡ ideal / check_model.gcd kept ideal) }
-{
-    let g = fraction::gcd(kept, ideal);
-    Fraction {
-        p: kept / g,
-        q: ideal / g,
-    }
-}
-
 // Writes the steps of a cycle of k steps from the place `at` on.
 pub fn write_steps(
-    rules: Rules,
+    machine: &Machine,
     k: usize,
     notes: &mut [u32; graph::NOTE_ROOM],
     m: &[u8],
     out: &mut [u8],
     at: usize,
 )
-    requires { Ruled rules × Turning rules m.now k × (note_room ≤ length notes.old) × (at + step_size * k ≤ length out.old) }
-    ensures writes { (P : Plan) (next : List ℕ) (n v : ℕ) (es : List model.Edge) → Turns P rules next m.now n k v es → Writes P m.now k v out.old at out.new }
-    ensures notes_free { NotesFree notes.old notes.new }
+    requires { Turning machine.now.rules m.now k × (at + step_size * k ≤ length out.old) }
+    ensures { (P : Plan) (next : List ℕ) (n v : ℕ) (es : List model.Edge) → Turns P machine.now.rules next m.now n k v es → Writes P m.now k v out.old at out.new }
 {
-    let mut i = 0;
-    while i < k {
-        let edge = step_edge(rules, k, i, notes, m);
+    for i in 0..k {
+        let edge = step_edge(machine, k, i, notes, m);
         certificate_bytes::write_step(out, at + certificate::STEP_SIZE * i, edge.label, edge.masks);
-        i += 1;
     }
 }

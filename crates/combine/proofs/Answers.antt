@@ -22,13 +22,13 @@ use Rattle.model.specs.Combine.{Pair, starts, same_pair, pairs_next, pairs, many
 use Rattle.theory.proofs.Combined.{combine-admits, combine-many}
 use Rattle.plan.specs.declared.Fault.TheVariants.{OutOfRange}
 use Rattle.plan.specs.declared.Plan.{Plan}
-use Rattle.plan.specs.View.{tasks_of, arcs_in, plan_of, Sized}
+use Rattle.plan.specs.View.{list_of, arcs_in, plan_of}
 use Rattle.plan.proofs.View.{tasks-size}
 use Rattle.refusals.specs.declared.Refusal as refusal
 use Rattle.refusals.specs.declared.Refusal.TheVariants.{TooManyPairs}
-use Rattle.refusals.specs.declared.Answer.{Answer}
-use Rattle.refusals.specs.declared.Answer.TheVariants.{Refused, Written}
-use Rattle.refusals.specs.Told.{Told}
+use Rattle.std.specs.Prelude as rust
+use Rattle.std.specs.Prelude.{Ok, Err, None, Some}
+use Rattle.refusals.specs.Told.{Answer, Told}
 use Rattle.refusals.proofs.Told.{told_as, told-refusal, told-written, told-bytes, told-due}
 use Rattle.combine.specs.declared.Automaton.{Automaton}
 use Rattle.combine.specs.Pairs.{reached_pairs, IsProduct}
@@ -36,7 +36,7 @@ use Rattle.combine.specs.Promise.{Combines}
 
 -- ---- the tests on two sound plans
 
-module _ (p q : Plan) (z : Sized p) (before : List ℕ) where
+module _ (p q : Plan) (before : List ℕ) where
   abbrev due : Writing model.Plan
   due = combine_in (plan_of p) (plan_of q)
 
@@ -47,28 +47,28 @@ module _ (p q : Plan) (z : Sized p) (before : List ℕ) where
       due ≡ cond a (cond b (refuses too_many_pairs) (writes (combined (plan_of p) (plan_of q)))) (refuses out_of_range)
   by_tests a b e f = λ i. cond (e i) (cond (f i) (refuses too_many_pairs) (writes (combined (plan_of p) (plan_of q)))) (refuses out_of_range)
 
-  pub other-tasks : same ≡ false → Told plan_bytes due before before (Refused (refusal.TheVariants.Plan OutOfRange))
+  pub other-tasks : same ≡ false → Told plan_bytes due before before (Err (refusal.TheVariants.Plan OutOfRange))
   other-tasks e = told-refusal plan_bytes due before (refusal.TheVariants.Plan OutOfRange) (by_tests false (many_pairs (plan_of p) (plan_of q)) e refl)
 
-  counted : length (tasks_of p.tasks p.count) ≡ p.count
-  counted = tasks-size p z
+  counted : length (list_of p.tasks) ≡ p.tasks.count
+  counted = tasks-size p.tasks
 
   -- the pairs of the tables are the plans'
-  same-pairs : reached_pairs p.next q.next p.count ≡ pairs (plan_of p) (plan_of q)
+  same-pairs : reached_pairs p.next q.next p.tasks.count ≡ pairs (plan_of p) (plan_of q)
   unfolding pairs
   same-pairs = ap (λ (n : ℕ). found same_pair (pairs_next (arcs_in p.next) (arcs_in q.next) n) starts max_states) (sym counted)
 
-  module _ (tasks : same ≡ true) (r : Automaton) (product : IsProduct p.next q.next p.count r) where
-    pub many-pairs : max_states < r.states → Told plan_bytes due before before (Refused TooManyPairs)
+  module _ (tasks : same ≡ true) (o : rust.Option Automaton) (product : IsProduct p.next q.next p.tasks.count o) where
+    pub many-pairs : o ≡ None → Told plan_bytes due before before (Err TooManyPairs)
     unfolding many_pairs
     many-pairs h =
         told-refusal plan_bytes due before TooManyPairs
         (by_tests true true tasks (lt-ltb max_states (length (pairs (plan_of p) (plan_of q))) (omega (arith, product.many h, ap length same-pairs))))
 
-    module _ (few : r.states ≤ max_states) where
+    module _ (r : Automaton) (is : o ≡ Some r) where
       -- the first plan with the product's table in place of its own
       abbrev replaced : Plan
-      replaced = record { tasks = p.tasks; count = p.count; policy = p.policy; states = r.states; next = r.next }
+      replaced = record { tasks = p.tasks; policy = p.policy; states = r.states; next = r.next }
 
       abbrev automaton : List Pair → ℕ → List model.Arc
       automaton us count = arcs_of (length us) count (numbered_next (arcs_in p.next) (arcs_in q.next) us)
@@ -76,19 +76,19 @@ module _ (p q : Plan) (z : Sized p) (before : List ℕ) where
       replaced-plan : plan_of replaced ≡ combined (plan_of p) (plan_of q)
       unfolding combined
       replaced-plan = λ i. record {
-        tasks = tasks_of p.tasks p.count;
+        tasks = list_of p.tasks;
         policy = p.policy;
-        states = (product.states few ∙ ap length same-pairs) i;
-        arcs = (product.arcs few ∙ (λ j. automaton (same-pairs j) (sym counted j))) i;
+        states = ((product.states r is).0 ∙ ap length same-pairs) i;
+        arcs = (product.arcs r is ∙ (λ j. automaton (same-pairs j) (sym counted j))) i;
       }
 
       pub both_written : (after : List ℕ) (n : ℕ) → n ≡ length (plan_bytes (plan_of replaced)) → after ≡ overwrite before 0 (plan_bytes (plan_of replaced)) →
-          Told plan_bytes due before after (Written n)
+          Told plan_bytes due before after (Ok n)
       unfolding many_pairs
       both_written after n size bytes =
           told-written plan_bytes due (plan_of replaced) before after n
           (by_tests true false tasks
-          (le-ltb max_states (length (pairs (plan_of p) (plan_of q))) (omega (arith, few, product.states few, ap length same-pairs)))
+          (le-ltb max_states (length (pairs (plan_of p) (plan_of q))) (omega (arith, (product.states r is).1, (product.states r is).0, ap length same-pairs)))
           ∙ ap writes (sym replaced-plan))
           size bytes
 

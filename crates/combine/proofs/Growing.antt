@@ -12,7 +12,6 @@ use borrow.Author.Tests.{lt-ltb, le-ltb}
 use lib.Dec.{ltb}
 use lib.ListN.{length, get_or, set, length-set}
 use lib.Seq.{get_or-set_same, get_or-set_other}
-use Rattle.model.specs.Limits.{max_states}
 use Rattle.model.specs.Lists.{flat_map, up_from, list_of}
 use Rattle.model.specs.Discovery.{add, number_in}
 use Rattle.model.specs.Combine.{Pair, same_pair, numbered}
@@ -20,9 +19,12 @@ use Rattle.model.proofs.Lists.{flat_map-append, flat_map_snoc, up_from-append, m
 use Rattle.model.proofs.Discovery.{among-mem, add_own, fold-holds, fold_longer, fold-number}
 use Rattle.theory.proofs.Pairs.{same_pair_lem}
 use Rattle.plan.specs.View.{label_count, next_of}
+use Rattle.std.specs.Prelude as rust
+use Rattle.std.specs.Prelude.{None, Some}
+use Rattle.combine.specs.declared.Row.{Row}
 use Rattle.combine.specs.declared.Step.{Step}
-use Rattle.combine.specs.Pairs.{pair_at, pair_in, pairs_in, pair_leads, pairs_after, Numbering, PairsKnown, LabelFollowed, PairExplored}
-use Rattle.combine.proofs.Numbers.{number_read}
+use Rattle.combine.specs.Pairs.{optional, pair_at, pair_in, pairs_in, pair_leads, pairs_after, Numbering, PairsKnown, LabelFollowed, PairExplored}
+use Rattle.combine.proofs.Numbers.{number_read, some_is, some-none, known_some, known_none}
 
 -- a pair that is known keeps its number when others join
 pub numbered-kept : (us ts : List Pair) (o : Option Pair) → ((v : Pair) → o ≡ some v → Memᴰ v us) →
@@ -34,35 +36,43 @@ numbered-kept us ts (some v) h = ap some (fold-number same_pair same_pair_lem ts
 
 module _ (first second : List ℕ) (u : Pair) (l : ℕ) (us : List Pair) (order numbers : List ℕ) where
   -- what a step says, by where the label leads
-  abbrev FollowedTo : Option Pair → Step → Type 0
+  abbrev FollowedTo : Option Pair → rust.Option Step → Type 0
   FollowedTo o r =
-      PairsKnown (foldl (add same_pair) us (list_of o)) order numbers r.known
-      × (r.known ≤ max_states → next_of r.entry ≡ numbered (pairs_in order r.known) o)
+      PairsKnown (foldl (add same_pair) us (list_of o)) order numbers (optional (λ (s : Step). s.known) r)
+      × ((s : Step) → r ≡ Some s → next_of s.entry ≡ numbered (pairs_in order s.known) o)
 
-  followed : (o : Option Pair) → o ≡ pair_leads first second u l → (r : Step) → FollowedTo o r → LabelFollowed first second u l us order numbers r
+  followed : (o : Option Pair) → o ≡ pair_leads first second u l → (r : rust.Option Step) → FollowedTo o r → LabelFollowed first second u l us order numbers r
   followed o e r f =
       let g = subst (λ (p : Option Pair). FollowedTo p r) e f in
       record { known = g.0; entry = g.1 }
 
   -- nowhere
-  pub followed_none : (n : ℕ) → Numbering order numbers n → us ≡ pairs_in order n → (to : ℕ) → pair_in to ≡ pair_leads first second u l → to ≡ 0 →
-      LabelFollowed first second u l us order numbers (record { known = n; entry = 0 })
+  pub followed_none : (n : ℕ) → Numbering order numbers n → us ≡ pairs_in order n → (to : rust.Option ℕ) → pair_in to ≡ pair_leads first second u l → to ≡ None →
+      LabelFollowed first second u l us order numbers (Some (record { known = n; entry = 0 }))
   followed_none n known same to e z =
-      followed none (ap pair_in (sym z) ∙ e) (record { known = n; entry = 0 })
-      (record { held = λ few. (known, sym same); many = λ more. absurd (omega (arith, more, known.few)) }, λ few. refl)
+      followed none (ap pair_in (sym z) ∙ e) (Some (record { known = n; entry = 0 }))
+      (known_some us order numbers n known (sym same), λ s q. ap (λ (t : Step). next_of t.entry) (sym (some_is (record { known = n; entry = 0 }) s q)))
 
   -- to a pair
-  pub followed_some : (to c r : ℕ) → pair_in to ≡ pair_leads first second u l → to ≡ suc c → PairsKnown (add same_pair us (pair_at c)) order numbers r →
-      LabelFollowed first second u l us order numbers (record { known = r; entry = get_or numbers c 0 })
-  followed_some to c r e z known =
-      followed (some (pair_at c)) (ap pair_in (sym z) ∙ e) (record { known = r; entry = get_or numbers c 0 }) (known, entry)
-    where
-      entry : r ≤ max_states → next_of (get_or numbers c 0) ≡ some (number_in same_pair (pairs_in order r) (pair_at c))
-      entry few =
-          let h = known.held few in
-          let there : Memᴰ (pair_at c) (pairs_in order r) =
-          subst (λ (vs : List Pair). Memᴰ (pair_at c) vs) (sym h.1) ((among-mem same_pair same_pair_lem (pair_at c) (add same_pair us (pair_at c))).0 (add_own same_pair same_pair_lem us (pair_at c))) in
-          ap next_of (number_read order numbers r h.0 c there)
+  module _ (to : rust.Option ℕ) (c : ℕ) (r : rust.Option ℕ) (e : pair_in to ≡ pair_leads first second u l) (z : to ≡ Some c) (known : PairsKnown (add same_pair us (pair_at c)) order numbers r) where
+    pub followed_many : r ≡ None → LabelFollowed first second u l us order numbers None
+    followed_many n =
+        followed (some (pair_at c)) (ap pair_in (sym z) ∙ e) None
+        (known_none _ order numbers (known.many n), λ s q. absurd (some-none s (sym q)))
+
+    pub followed_some : (n : ℕ) → r ≡ Some n → LabelFollowed first second u l us order numbers (Some (record { known = n; entry = get_or numbers c 0 }))
+    followed_some n is =
+        followed (some (pair_at c)) (ap pair_in (sym z) ∙ e) (Some (record { known = n; entry = get_or numbers c 0 }))
+        (known_some _ order numbers n h.0 h.1, λ s q. subst (λ (t : Step). next_of t.entry ≡ numbered (pairs_in order t.known) (some (pair_at c))) (some_is (record { known = n; entry = get_or numbers c 0 }) s q) entry)
+      where
+        h : Numbering order numbers n × (pairs_in order n ≡ add same_pair us (pair_at c))
+        h = known.held n is
+
+        entry : next_of (get_or numbers c 0) ≡ some (number_in same_pair (pairs_in order n) (pair_at c))
+        entry =
+            let there : Memᴰ (pair_at c) (pairs_in order n) =
+            subst (λ (vs : List Pair). Memᴰ (pair_at c) vs) (sym h.1) ((among-mem same_pair same_pair_lem (pair_at c) (add same_pair us (pair_at c))).0 (add_own same_pair same_pair_lem us (pair_at c))) in
+            ap next_of (number_read order numbers n h.0 c there)
 
 -- ---- the labels from 0 up
 
@@ -90,57 +100,61 @@ module _ (first second : List ℕ) (u : Pair) (us : List Pair) where
     entry = λ l. ap next_of (none_yet l) ∙ sym (ap (λ (b : Bool). cond b (numbered (pairs_in order n) (pair_leads first second u l)) none) (le-ltb l 0 (omega arith)));
   }
 
-  module _ (order numbers entries : List ℕ) (n k : ℕ) (part : Part order numbers entries n k) (order' numbers' : List ℕ) (r : Step)
-      (step : LabelFollowed first second u k (pairs_in order n) order' numbers' r) where
+  module _ (order numbers entries : List ℕ) (n k : ℕ) (part : Part order numbers entries n k) where
     one_more : foldl (add same_pair) (pairs_in order n) (to k) ≡ foldl (add same_pair) us (below (suc k))
     one_more =
         ap (λ (vs : List Pair). foldl (add same_pair) vs (to k)) part.pairs
         ∙ sym (foldl-append (add same_pair) us (below k) (to k)) ∙ ap (foldl (add same_pair) us) (sym (flat_map_snoc to k))
 
-    -- the entries so far, once the label's pair has joined
-    kept : r.known ≤ max_states → (l : ℕ) → l < k →
-        numbered (pairs_in order' r.known) (pair_leads first second u l) ≡ numbered (pairs_in order n) (pair_leads first second u l)
-    kept few l h =
-        ap (λ (vs : List Pair). numbered vs (pair_leads first second u l)) (step.known.held few).1
-        ∙ numbered-kept (pairs_in order n) (to k) (pair_leads first second u l) there
-      where
-        there : (v : Pair) → pair_leads first second u l ≡ some v → Memᴰ v (pairs_in order n)
-        there v e =
-            subst (λ (vs : List Pair). Memᴰ v vs) (sym part.pairs)
-            (fold-holds same_pair same_pair_lem (below k) us v (mem-given (pair_leads first second u) k l h e))
+    module _ (order' numbers' : List ℕ) (r : Step) (step : LabelFollowed first second u k (pairs_in order n) order' numbers' (Some r)) where
+      held : Numbering order' numbers' r.known × (pairs_in order' r.known ≡ foldl (add same_pair) (pairs_in order n) (to k))
+      held = step.known.held r.known refl
 
-    -- one label more
-    pub part-more : r.known ≤ max_states → k < label_count → Part order' numbers' (set entries k r.entry) r.known (k + 1)
-    part-more few room = record {
-      numbering = (step.known.held few).0;
-      pairs = (step.known.held few).1 ∙ one_more ∙ ap (λ (j : ℕ). foldl (add same_pair) us (below j)) (sym (add-one k));
-      size = length-set entries k r.entry ∙ part.size;
-      entry = λ l. at l (ℕ_discrete l k) (dec_lt l k);
-    }
-      where
-        now : ℕ → Option ℕ
-        now l = numbered (pairs_in order' r.known) (pair_leads first second u l)
+      -- the entries so far, once the label's pair has joined
+      kept : (l : ℕ) → l < k →
+          numbered (pairs_in order' r.known) (pair_leads first second u l) ≡ numbered (pairs_in order n) (pair_leads first second u l)
+      kept l h =
+          ap (λ (vs : List Pair). numbered vs (pair_leads first second u l)) held.1
+          ∙ numbered-kept (pairs_in order n) (to k) (pair_leads first second u l) there
+        where
+          there : (v : Pair) → pair_leads first second u l ≡ some v → Memᴰ v (pairs_in order n)
+          there v e =
+              subst (λ (vs : List Pair). Memᴰ v vs) (sym part.pairs)
+              (fold-holds same_pair same_pair_lem (below k) us v (mem-given (pair_leads first second u) k l h e))
 
-        at : (l : ℕ) → Dec (l ≡ k) → Dec (l < k) → next_of (get_or (set entries k r.entry) l 0) ≡ cond (ltb l (k + 1)) (now l) none
-        at l (yes e) d =
-            ap (λ (j : ℕ). next_of (get_or (set entries k r.entry) j 0)) e
-            ∙ ap next_of (get_or-set_same entries k r.entry 0 (omega (arith, room, part.size))) ∙ step.entry few
-            ∙ sym (ap (λ (b : Bool). cond b (now l) none) (lt-ltb l (k + 1) (omega arith)) ∙ ap now e)
-        at l (no e) (yes h) =
-            ap next_of (get_or-set_other entries k l r.entry 0 e) ∙ part.entry l
-            ∙ ap (λ (b : Bool). cond b (numbered (pairs_in order n) (pair_leads first second u l)) none) (lt-ltb l k h)
-            ∙ sym (kept few l h) ∙ sym (ap (λ (b : Bool). cond b (now l) none) (lt-ltb l (k + 1) (omega arith)))
-        at l (no e) (no h) =
-            ap next_of (get_or-set_other entries k l r.entry 0 e) ∙ part.entry l
-            ∙ ap (λ (b : Bool). cond b (numbered (pairs_in order n) (pair_leads first second u l)) none) (le-ltb l k (omega arith))
-            ∙ sym (ap (λ (b : Bool). cond b (now l) none) (le-ltb l (k + 1) (omega arith)))
+      -- one label more
+      pub part-more : k < label_count → Part order' numbers' (set entries k r.entry) r.known (k + 1)
+      part-more room = record {
+        numbering = held.0;
+        pairs = held.1 ∙ one_more ∙ ap (λ (j : ℕ). foldl (add same_pair) us (below j)) (sym (add-one k));
+        size = length-set entries k r.entry ∙ part.size;
+        entry = λ l. at l (ℕ_discrete l k) (dec_lt l k);
+      }
+        where
+          now : ℕ → Option ℕ
+          now l = numbered (pairs_in order' r.known) (pair_leads first second u l)
+
+          at : (l : ℕ) → Dec (l ≡ k) → Dec (l < k) → next_of (get_or (set entries k r.entry) l 0) ≡ cond (ltb l (k + 1)) (now l) none
+          at l (yes e) d =
+              ap (λ (j : ℕ). next_of (get_or (set entries k r.entry) j 0)) e
+              ∙ ap next_of (get_or-set_same entries k r.entry 0 (omega (arith, room, part.size))) ∙ step.entry r refl
+              ∙ sym (ap (λ (b : Bool). cond b (now l) none) (lt-ltb l (k + 1) (omega arith)) ∙ ap now e)
+          at l (no e) (yes h) =
+              ap next_of (get_or-set_other entries k l r.entry 0 e) ∙ part.entry l
+              ∙ ap (λ (b : Bool). cond b (numbered (pairs_in order n) (pair_leads first second u l)) none) (lt-ltb l k h)
+              ∙ sym (kept l h) ∙ sym (ap (λ (b : Bool). cond b (now l) none) (lt-ltb l (k + 1) (omega arith)))
+          at l (no e) (no h) =
+              ap next_of (get_or-set_other entries k l r.entry 0 e) ∙ part.entry l
+              ∙ ap (λ (b : Bool). cond b (numbered (pairs_in order n) (pair_leads first second u l)) none) (le-ltb l k (omega arith))
+              ∙ sym (ap (λ (b : Bool). cond b (now l) none) (le-ltb l (k + 1) (omega arith)))
 
     -- too many already: too many with the other labels
-    pub part-many : max_states < r.known → (count : ℕ) → k < 2 ^ count → PairExplored first second count u us order' numbers' (record { known = r.known; entries = entries })
-    part-many more count h = record {
-      known = record { held = λ few. absurd (omega arith); many = λ x. omega (arith, step.known.many more, ap length one_more, longer) };
-      size = part.size;
-      entry = λ few. absurd (omega arith);
+    pub part-many : (order' numbers' : List ℕ) → LabelFollowed first second u k (pairs_in order n) order' numbers' None → (count : ℕ) → k < 2 ^ count →
+        PairExplored first second count u us order' numbers' None
+    part-many order' numbers' step count h = record {
+      known = known_none _ order' numbers' (omega (arith, step.known.many refl, ap length one_more, longer));
+      size = λ w q. absurd (some-none w (sym q));
+      entry = λ w q. absurd (some-none w (sym q));
     }
       where
         longer : length (foldl (add same_pair) us (below (suc k))) ≤ length (foldl (add same_pair) us (pairs_after first second count u))
@@ -157,12 +171,13 @@ module _ (first second : List ℕ) (u : Pair) (us : List Pair) where
 
   -- all labels
   pub part-all : (order numbers entries : List ℕ) (n k count : ℕ) → Part order numbers entries n k → k ≡ 2 ^ count →
-      PairExplored first second count u us order numbers (record { known = n; entries = entries })
+      PairExplored first second count u us order numbers (Some (record { known = n; entries = entries }))
   part-all order numbers entries n k count part e = record {
-    known = record {
-      held = λ few. (part.numbering, part.pairs ∙ ap (λ (j : ℕ). foldl (add same_pair) us (below j)) e);
-      many = λ more. absurd (omega (arith, more, part.numbering.few));
-    };
-    size = part.size;
-    entry = λ few l. part.entry l ∙ ap (λ (j : ℕ). cond (ltb l j) (numbered (pairs_in order n) (pair_leads first second u l)) none) e;
+    known = known_some _ order numbers n part.numbering (part.pairs ∙ ap (λ (j : ℕ). foldl (add same_pair) us (below j)) e);
+    size = λ w q. ap (λ (v : Row). length v.entries) (sym (some_is row w q)) ∙ part.size;
+    entry = λ w q. subst (λ (v : Row). (l : ℕ) → next_of (get_or v.entries l 0) ≡ cond (ltb l (2 ^ count)) (numbered (pairs_in order v.known) (pair_leads first second u l)) none) (some_is row w q)
+        (λ l. part.entry l ∙ ap (λ (j : ℕ). cond (ltb l j) (numbered (pairs_in order n) (pair_leads first second u l)) none) e);
   }
+    where
+      row : Row
+      row = record { known = n; entries = entries }

@@ -1,4 +1,3 @@
-pub mod Tasks
 pub mod Numbers
 pub mod Leads
 pub mod Growing

@@ -1,6 +1,8 @@
 -- Pairs and their numbers: the table of numbers tells which pairs are known.
 -- Assumes nothing.
-use mathlib.Core.Path.{◌≡◌, refl, sym, ap, ◌∙◌}
+use mathlib.Core.Path.{◌≡◌, refl, sym, ap, subst, ◌∙◌}
+use Rattle.std.specs.Prelude as rust
+use Rattle.std.specs.Prelude.{None, Some}
 use mathlib.Core.Bool.{Bool, true, false, cond}
 use mathlib.Core.List.Memᴰ
 use mathlib.Core.List.{List, [], ◌∷◌, ◌++◌, map, map-append, Memᴰ}
@@ -24,6 +26,27 @@ pair_number c d e =
     let left : c / max_states ≡ d / max_states = ap (λ (u : Pair). u.left) e in
     let right : c % max_states ≡ d % max_states = ap (λ (u : Pair). u.right) e in
     omega (arith, left, right)
+
+-- ---- what is given, if it is
+
+abbrev or_this : {A : Type 0} → A → rust.Option A → A
+or_this d None = d
+or_this d (Some a) = a
+
+pub some_is : {A : Type 0} (a b : A) → ◌≡◌ {A = rust.Option A} (Some a) (Some b) → a ≡ b
+some_is a b e = ap (or_this a) e
+
+pub some-none : {A : Type 0} (a : A) → ◌≡◌ {A = rust.Option A} (Some a) None → ⊥
+some-none a e = let z : ◌≡◌ {A = ℕ} 0 1 = cc in omega arith
+
+pub known_some : (us : List Pair) (order numbers : List ℕ) (n : ℕ) → Numbering order numbers n → pairs_in order n ≡ us → PairsKnown us order numbers (Some n)
+known_some us order numbers n known same = record {
+  held = λ m e. subst (λ (k : ℕ). Numbering order numbers k × (pairs_in order k ≡ us)) (some_is n m e) (known, same);
+  many = λ e. absurd (some-none n e);
+}
+
+pub known_none : (us : List Pair) (order numbers : List ℕ) → max_states < length us → PairsKnown us order numbers None
+known_none us order numbers more = record { held = λ m e. absurd (some-none m (sym e)); many = λ e. more }
 
 -- ---- n pairs known
 
@@ -53,13 +76,10 @@ module _ (order numbers : List ℕ) (n : ℕ) (known : Numbering order numbers n
 
   module _ (c : ℕ) where
     -- a pair that has a number is among them
-    pub join_there : (0 < get_or numbers c 0) → PairsKnown (add same_pair us (pair_at c)) order numbers n
+    pub join_there : (0 < get_or numbers c 0) → PairsKnown (add same_pair us (pair_at c)) order numbers (Some n)
     join_there h =
         let there : among same_pair (pair_at c) us ≡ true = (among-mem same_pair same_pair_lem (pair_at c) us).1 (by (get_or numbers c 0) refl h) in
-        record {
-          held = λ few. (known, sym (ap (λ (b : Bool). cond b us (us ++ (pair_at c ∷ []))) there));
-          many = λ more. absurd (omega (arith, more, known.few));
-        }
+        known_some _ order numbers n known (sym (ap (λ (b : Bool). cond b us (us ++ (pair_at c ∷ []))) there))
       where
         by : (x : ℕ) → get_or numbers c 0 ≡ x → 0 < x → Memᴰ (pair_at c) us
         by zero e h = absurd (omega (arith, h))
@@ -77,11 +97,8 @@ module _ (order numbers : List ℕ) (n : ℕ) (known : Numbering order numbers n
       joined = ap (λ (b : Bool). cond b us (us ++ (pair_at c ∷ []))) absent
 
       -- one more than there may be
-      pub join_full : n ≡ max_states → (r : ℕ) → r ≡ max_states + 1 → PairsKnown (add same_pair us (pair_at c)) order numbers r
-      join_full full r e = record {
-        held = λ few. absurd (omega (arith, few, e));
-        many = λ more. omega (arith, full, pairs-length, ap length joined, length-append us (pair_at c ∷ []));
-      }
+      pub join_full : n ≡ max_states → PairsKnown (add same_pair us (pair_at c)) order numbers None
+      join_full full = known_none _ order numbers (omega (arith, full, pairs-length, ap length joined, length-append us (pair_at c ∷ [])))
 
       -- the next one
       module _ (room : n < max_states) (fits : c < state_pairs) where
@@ -135,8 +152,8 @@ module _ (order numbers : List ℕ) (n : ℕ) (known : Numbering order numbers n
             ∙ ap (map pair_at) (take-suc-set order n c (omega (arith, room, known.room)))
             ∙ map-append pair_at (take n order) (c ∷ [])
 
-        pub join_new : PairsKnown (add same_pair us (pair_at c)) order' numbers' (n + 1)
-        join_new = record { held = λ few. (numbering, in_order ∙ sym joined); many = λ more. absurd (omega arith) }
+        pub join_new : PairsKnown (add same_pair us (pair_at c)) order' numbers' (Some (n + 1))
+        join_new = known_some _ order' numbers' (n + 1) numbering (in_order ∙ sym joined)
 
 -- ---- none are known at first
 

@@ -6,7 +6,7 @@ use mathlib.Core.Logic.{inl, inr}
 use mathlib.Core.List.{List, [], ◌∷◌, foldl}
 use mathlib.Core.Option.{Option, none}
 use Prim.Native.Nat.{ℕ, suc, ◌+◌, ◌*◌, ◌^◌, ◌≤◌, ◌<◌}
-use native.Mathlib.Decide.{ℕ_discrete, dec_lt}
+use native.Mathlib.Decide.{ℕ_discrete}
 use native.Mathlib.Numerals.{add-one}
 use native.Mathlib.Omega.{arith}
 use borrow.Author.Tests.{ltb-true, ltb-false}
@@ -23,9 +23,13 @@ use Rattle.model.proofs.Discovery.{known-found, found-step, found_all, found-man
 use Rattle.theory.proofs.Pairs.{same_pair_lem}
 use Rattle.plan.specs.View.{label_count, pair_count, arcs_in, next_of}
 use Rattle.plan.proofs.Arcs.{table-arcs}
+use Rattle.std.specs.Prelude as rust
+use Rattle.std.specs.Prelude.{None, Some}
+use Rattle.model.specs.PlanBytes.{arcs_of}
+use Rattle.combine.specs.declared.Automaton.{Automaton}
 use Rattle.combine.specs.declared.Row.{Row}
-use Rattle.combine.specs.Pairs.{pair_at, pairs_in, pair_leads, pairs_after, reached_pairs, Numbering, PairsKnown, PairExplored, IsProduct}
-use Rattle.combine.proofs.Numbers.{pairs-length, pair_get_or}
+use Rattle.combine.specs.Pairs.{optional, pair_at, pairs_in, pair_leads, pairs_after, reached_pairs, Numbering, PairsKnown, PairExplored, IsProduct}
+use Rattle.combine.proofs.Numbers.{pairs-length, pair_get_or, some_is, some-none}
 use Rattle.combine.proofs.Growing.{numbered-kept}
 
 module _ (first second : List ℕ) (count : ℕ) where
@@ -53,23 +57,20 @@ module _ (first second : List ℕ) (count : ℕ) where
     pub free : (c : ℕ) → k * label_count ≤ c → get_or next c 0 ≡ 0
 
   -- the pair of starts is known
-  pub reached-start : (order numbers next : List ℕ) (r : ℕ) → PairsKnown (starts ∷ []) order numbers r → length next ≡ pair_count → ((c : ℕ) → get_or next c 0 ≡ 0) →
-      Reached order numbers next r 0
-  unfolding found
-  reached-start order numbers next r start size none_yet =
-      let few : r ≤ max_states = small (dec_lt max_states r) in
-      record {
-        numbering = (start.held few).0;
-        pairs = (start.held few).1;
-        within = omega arith;
-        size = size;
-        rows = λ s l h. absurd (omega (arith, h));
-        free = λ c h. none_yet c;
-      }
-    where
-      small : Dec (max_states < r) → r ≤ max_states
-      small (yes h) = absurd (omega (arith, start.many h))
-      small (no h) = omega (arith, h)
+  module _ (order numbers : List ℕ) (o : rust.Option ℕ) (start : PairsKnown (starts ∷ []) order numbers o) where
+    pub start_known : o ≡ None → ⊥
+    start_known e = omega (arith, start.many e)
+
+    pub reached-start : (r : ℕ) → o ≡ Some r → (next : List ℕ) → length next ≡ pair_count → ((c : ℕ) → get_or next c 0 ≡ 0) → Reached order numbers next r 0
+    unfolding found
+    reached-start r is next size none_yet = record {
+      numbering = (start.held r is).0;
+      pairs = (start.held r is).1;
+      within = omega arith;
+      size = size;
+      rows = λ s l h. absurd (omega (arith, h));
+      free = λ c h. none_yet c;
+    }
 
   module _ (order numbers next : List ℕ) (n k : ℕ) (now : Reached order numbers next n k) where
     size-known : length (known k) ≡ n
@@ -77,7 +78,7 @@ module _ (first second : List ℕ) (count : ℕ) where
 
     -- ---- the next pair
 
-    module _ (more : k < n) (order' numbers' : List ℕ) (row : Row) (explored : PairExplored first second count (pair_at (get_or order k 0)) (pairs_in order n) order' numbers' row) where
+    module _ (more : k < n) (order' numbers' : List ℕ) (out : rust.Option Row) (explored : PairExplored first second count (pair_at (get_or order k 0)) (pairs_in order n) order' numbers' out) where
       this : pair_at (get_or order k 0) ≡ get_or (known k) k starts
       this = sym (pair_get_or order numbers n now.numbering k more) ∙ ap (λ (us : List Pair). get_or us k starts) now.pairs
 
@@ -88,23 +89,28 @@ module _ (first second : List ℕ) (count : ℕ) where
       step = (λ i. foldl (add same_pair) (now.pairs i) (after (this i))) ∙ sym grown
 
       -- too many
-      pub reached-many : max_states < row.known → IsProduct first second count (record { states = row.known; next = next })
-      reached-many much = record {
-        states = λ few. absurd (omega (arith, few, much));
+      pub reached-many : out ≡ None → IsProduct first second count None
+      reached-many is = record {
+        states = λ a q. absurd (some-none a (sym q));
         many = λ h.
             found-many same_pair same_pair_lem after starts max_states (suc k) (omega (arith, more, now.numbering.few))
-            (omega (arith, explored.known.many much, ap length step));
-        size = now.size;
-        arcs = λ few. absurd (omega (arith, few, much));
+            (omega (arith, explored.known.many (ap (optional (λ (w : Row). w.known)) is), ap length step));
+        arcs = λ a q. absurd (some-none a (sym q));
       }
 
       -- the row is written
-      module _ (few : row.known ≤ max_states) where
+      module _ (row : Row) (is : out ≡ Some row) where
+        held : Numbering order' numbers' row.known × (pairs_in order' row.known ≡ foldl (add same_pair) (pairs_in order n) (after (pair_at (get_or order k 0))))
+        held = explored.known.held row.known (ap (optional (λ (w : Row). w.known)) is)
+
+        row-size : length row.entries ≡ label_count
+        row-size = explored.size row is
+
         abbrev next' : List ℕ
         next' = overwrite next (label_count * k) row.entries
 
         pairs' : pairs_in order' row.known ≡ known (suc k)
-        pairs' = (explored.known.held few).1 ∙ step
+        pairs' = held.1 ∙ step
 
         same_place : (s : ℕ) → s ≤ k → get_or (known (suc k)) s starts ≡ get_or (known k) s starts
         same_place s h =
@@ -122,7 +128,7 @@ module _ (first second : List ℕ) (count : ℕ) where
             (mem-given (pair_leads first second (get_or (known k) s starts)) (2 ^ count) l b e))
 
         room : label_count * k + length row.entries ≤ length next
-        room = omega (arith, explored.size, now.size, more, now.numbering.few)
+        room = omega (arith, row-size, now.size, more, now.numbering.few)
 
         earlier : (s l : ℕ) → s < k → l < label_count → (b : Bool) → ltb l (2 ^ count) ≡ b →
             cond b (leads_to (known k) s l) none ≡ cond b (leads_to (known (suc k)) s l) none
@@ -133,8 +139,8 @@ module _ (first second : List ℕ) (count : ℕ) where
         rows s l (yes e) h j =
             let at : s * label_count + l ≡ label_count * k + l = omega (arith, e) in
             ap (λ (c : ℕ). next_of (get_or next' c 0)) at
-            ∙ ap next_of (overwrite-inside next (label_count * k) row.entries room l (omega (arith, j, explored.size)))
-            ∙ explored.entry few l
+            ∙ ap next_of (overwrite-inside next (label_count * k) row.entries room l (omega (arith, j, row-size)))
+            ∙ explored.entry row is l
             ∙ (λ i. cond (ltb l (2 ^ count)) (numbered (pairs' i) (pair_leads first second ((this ∙ sym (same_place k (omega arith)) ∙ ap (λ (x : ℕ). get_or (known (suc k)) x starts) (sym e)) i) l)) none)
         rows s l (no e) h j =
             ap next_of (overwrite_outside next (label_count * k) row.entries room (s * label_count + l) (inl (omega (arith, e, h, j))))
@@ -147,7 +153,7 @@ module _ (first second : List ℕ) (count : ℕ) where
               arith,
               size-known,
               ap length pairs',
-              pairs-length order' numbers' row.known (explored.known.held few).0,
+              pairs-length order' numbers' row.known held.0,
               ap length grown,
               fold_longer same_pair same_pair_lem (after (get_or (known k) k starts)) (known k),
             )
@@ -155,13 +161,13 @@ module _ (first second : List ℕ) (count : ℕ) where
         written : Reached order' numbers' next' row.known (k + 1)
         written =
             subst (λ (j : ℕ). Reached order' numbers' next' row.known j) (sym (add-one k)) record {
-              numbering = (explored.known.held few).0;
+              numbering = held.0;
               pairs = pairs';
               within = omega (arith, more, longer);
               size = overwrite-length next (label_count * k) row.entries room ∙ now.size;
               rows = λ s l. rows s l (ℕ_discrete s k);
               free = λ c h.
-                  overwrite_outside next (label_count * k) row.entries room c (inr (omega (arith, h, explored.size)))
+                  overwrite_outside next (label_count * k) row.entries room c (inr (omega (arith, h, row-size)))
                   ∙ now.free c (omega (arith, h));
             }
 
@@ -170,18 +176,19 @@ module _ (first second : List ℕ) (count : ℕ) where
             Reached order' numbers' copied row.known (k + 1)
         reached-next copied e =
             subst (λ (t : List ℕ). Reached order' numbers' t row.known (k + 1))
-            (sym (e ∙ ap (overwrite next (label_count * k)) (take_all label_count row.entries (omega (arith, explored.size))))) written
+            (sym (e ∙ ap (overwrite next (label_count * k)) (take_all label_count row.entries (omega (arith, row-size))))) written
 
     -- ---- all pairs
 
-    pub reached-all : count ≤ max_tasks → n ≤ k → IsProduct first second count (record { states = n; next = next })
+    pub reached-all : count ≤ max_tasks → n ≤ k → IsProduct first second count (Some (record { states = n; next = next }))
     reached-all tasks done = record {
-      states = λ few. sym (ap length (sym whole) ∙ size-known);
-      many = λ much. absurd (omega (arith, much, now.numbering.few));
-      size = now.size;
-      arcs = λ few. table-arcs next (length (reached_pairs first second count)) count (leads_to (reached_pairs first second count))
+      states = λ a q. subst (λ (b : Automaton). (b.states ≡ length (reached_pairs first second count)) × (b.states ≤ max_states)) (some_is (record { states = n; next = next }) a q)
+          (sym (ap length (sym whole) ∙ size-known), now.numbering.few);
+      many = λ e. absurd (some-none _ e);
+      arcs = λ a q. subst (λ (b : Automaton). arcs_in b.next ≡ arcs_of (length (reached_pairs first second count)) count (leads_to (reached_pairs first second count))) (some_is (record { states = n; next = next }) a q)
+          (table-arcs next (length (reached_pairs first second count)) count (leads_to (reached_pairs first second count))
           (omega (arith, ap length (sym whole), size-known, now.numbering.few)) tasks
-          (λ s l h j. at s l j (ltb s (length (reached_pairs first second count))) refl);
+          (λ s l h j. at s l j (ltb s (length (reached_pairs first second count))) refl));
     }
       where
         whole : known k ≡ reached_pairs first second count

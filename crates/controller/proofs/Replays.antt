@@ -5,7 +5,7 @@ use Rattle.model.specs.Controller.{registers, after_writes, block_after, writes_
 use Rattle.model.specs.Plan.{Plan, PlanAnswer, faulty, sound, read_plan}
 use Rattle.theory.proofs.Controller.{block-claim}
 use Rattle.controller.specs.View.{block_in, PartOf, After, Replays}
-use Rattle.controller.specs.declared.Controller.{Controller}
+use Rattle.controller.specs.declared.part.Controller.{Controller}
 
 module _ (plan writes before : List ℕ) where
   -- a plan with a fault
@@ -22,7 +22,7 @@ module _ (plan writes before : List ℕ) where
 
   -- one without
   module _ (P : Plan) (read : read_plan plan ≡ sound P) (c : Controller) (fresh : After P [] c) (after : List ℕ) (n : ℕ)
-      (is_after : (Q : Plan) → PartOf Q c.rules c.next → after ≡ registers (after_writes Q (block_in c) (writes_in writes))) (is_number : n ≡ last_refusal (writes_in writes)) where
+      (is_after : (Q : Plan) → PartOf Q c.machine.rules c.machine.next → after ≡ registers (after_writes Q (block_in c) (writes_in writes))) (is_number : n ≡ last_refusal (writes_in writes)) where
     replayed : after ≡ registers (block_after P (writes_in writes))
     replayed = is_after P fresh.part ∙ ap (λ b. registers (after_writes P b (writes_in writes))) fresh.block
 

@@ -1,65 +1,41 @@
 -- A write by its byte and its value.
 -- Assumes nothing.
-use Rattle.std.proofs.Common.{◌≡◌, ℕ, Bool, true, false, cond, ◌&&◌, ◌||◌, eqb, List, sym, refl, ap, ◌∙◌, arith, eq-eqb, ne_eqb}
+use Rattle.std.proofs.Common.{◌≡◌, ℕ, Bool, true, false, cond, ◌&&◌, ◌||◌, eqb, refl, ap, ◌∙◌, arith, eq-eqb, ne_eqb}
 use Rattle.model.specs.Controller as model
 use Rattle.model.specs.Controller.{gives_label, runs, gives_mask, refusal_of, ran_to, with_label, with_mask, after_write}
 use Rattle.model.specs.Plan.{Plan, next_in}
 use Rattle.model.specs.Refusals.{bad_write}
-use Rattle.policy.specs.View.{tasks_in}
-use Rattle.policy.specs.declared.Rules.{Rules}
-use Rattle.controller.specs.View.{block_of, write_of, Ready, Becomes}
-use Rattle.controller.specs.declared.Block.{Block}
+use Rattle.controller.specs.View.{write_of, action_view}
+use Rattle.controller.specs.declared.Action.{Action}
+use Rattle.controller.specs.declared.Action.TheVariants.{Label, Run, Mask}
 
-module _ (byte value : ℕ) where
-  abbrev w : model.Write
-  w = write_of byte value
+-- what a write may ask is not refused
+pub taken : (a : Action) → refusal_of (action_view a) ≡ 0
+unfolding refusal_of
+taken (Label l) = refl
+taken Run = refl
+taken (Mask m) = refl
 
-  -- the tests of a write
-  pub record Tests (z r m : Bool) : Type 0 where
-    pub label : gives_label w ≡ z
-    pub run : runs w ≡ r
-    pub mask : gives_mask w ≡ m
+-- a write that is refused changes nothing
+pub kept : (P : Plan) (b : model.Block) (w : model.Write) → refusal_of w ≡ bad_write → after_write P b w ≡ b
+unfolding refusal_of after_write
+kept P b w h = go (gives_label w) (runs w) (gives_mask w) h
+  where
+    go : (z r m : Bool) → cond (z || r || m) 0 bad_write ≡ bad_write →
+        cond z (with_label b w.value) (cond r (ran_to P b (next_in P.arcs b.state b.label)) (cond m (with_mask b w.value) b)) ≡ b
+    go true r m e = absurd (omega (arith, e))
+    go false true m e = absurd (omega (arith, e))
+    go false false true e = absurd (omega (arith, e))
+    go false false false e = refl
 
-  -- one to another byte than 1 runs no slot, nor does one of another value than 1
-  pub other_byte : (byte ≡ 1 → ⊥) → runs w ≡ false
-  other_byte h = ap (λ (b : Bool). b && eqb value 1) (ne_eqb byte 1 h)
+-- one to no byte that may be written is refused, and one of another value than 1 to byte 1
+module _ (byte value : ℕ) (z : byte ≡ 0 → ⊥) (m : byte ≡ 3 → ⊥) where
+  refused-by : runs (write_of byte value) ≡ false → refusal_of (write_of byte value) ≡ bad_write
+  unfolding refusal_of
+  refused-by r = λ i. cond (ne_eqb byte 0 z i || r i || ne_eqb byte 3 m i) 0 bad_write
 
-  pub by_value : byte ≡ 1 → runs w ≡ eqb value 1
-  by_value e = ap (λ (b : Bool). b && eqb value 1) (eq-eqb byte 1 e)
+  pub refused-byte : (byte ≡ 1 → ⊥) → refusal_of (write_of byte value) ≡ bad_write
+  refused-byte h = refused-by (ap (λ (b : Bool). b && eqb value 1) (ne_eqb byte 1 h))
 
-  pub label-write : byte ≡ 0 → Tests true false false
-  label-write e = record { label = eq-eqb byte 0 e; run = other_byte (λ k. omega (arith, e, k)); mask = ne_eqb byte 3 (λ k. omega (arith, e, k)) }
-
-  pub mask-write : byte ≡ 3 → Tests false false true
-  mask-write e = record { label = ne_eqb byte 0 (λ k. omega (arith, e, k)); run = other_byte (λ k. omega (arith, e, k)); mask = eq-eqb byte 3 e }
-
-  pub other-write : (byte ≡ 0 → ⊥) → (byte ≡ 3 → ⊥) → {r : Bool} → runs w ≡ r → Tests false r false
-  other-write z m e = record { label = ne_eqb byte 0 z; run = e; mask = ne_eqb byte 3 m }
-
-  module _ {z r m : Bool} (t : Tests z r m) where
-    pub refusal_by : cond (z || r || m) 0 bad_write ≡ refusal_of w
-    unfolding refusal_of
-    refusal_by = sym (λ i. cond (t.label i || t.run i || t.mask i) 0 bad_write)
-
-    after_by : (P : Plan) (b : model.Block) → after_write P b w
-        ≡ cond z (with_label b value) (cond r (ran_to P b (next_in P.arcs b.state b.label)) (cond m (with_mask b value) b))
-    unfolding after_write
-    after_by P b = λ i. cond (t.label i) (with_label b value) (cond (t.run i) (ran_to P b (next_in P.arcs b.state b.label)) (cond (t.mask i) (with_mask b value) b))
-
-    -- one that passes a test is not refused
-    pub taken_by : (z || r || m) ≡ true → refusal_of w ≡ bad_write → ⊥
-    taken_by h e = omega (arith, refusal_by ∙ e, ap (λ (k : Bool). cond k 0 bad_write) h)
-
-    -- what a block becomes by a write
-    pub becomes_by : (rules : Rules) (next : List ℕ) (b after : Block) →
-        Becomes rules next (λ P. let was = block_of (tasks_in rules) b in cond z (with_label was value) (cond r (ran_to P was (next_in P.arcs b.state b.label)) (cond m (with_mask was value) was))) after →
-        Becomes rules next (λ P. after_write P (block_of (tasks_in rules) b) w) after
-    becomes_by rules next b after h = record { is = λ P part. h.is P part ∙ sym (after_by P (block_of (tasks_in rules) b)); ready = h.ready }
-
--- a block with other registers is as ready
-pub becomes_with : (rules : Rules) (next : List ℕ) (b after : Block) → Ready rules next b → after.cells ≡ b.cells → after.state ≡ b.state →
-    Becomes rules next (λ P. block_of (tasks_in rules) after) after
-becomes_with rules next b after h e f = record {
-  is = λ P part. refl;
-  ready = record { ruled = h.ruled; states = h.states; cells = rw e h.cells; state = rw f h.state };
-}
+  pub refused-value : byte ≡ 1 → (value ≡ 1 → ⊥) → refusal_of (write_of byte value) ≡ bad_write
+  refused-value e h = refused-by (ap (λ (b : Bool). b && eqb value 1) (eq-eqb byte 1 e) ∙ ne_eqb value 1 h)

@@ -1,20 +1,26 @@
 // The controller's register block: a model of the part for firmware tests. It is set up from a plan and changed by register writes.
 #![tactic(auto)]
 
-ghost use Rattle.std.specs.Prelude.{◌≡◌, [], nat_lt};
+mod part; // part.rt: the block, and the part that holds it
+
+ghost use Rattle.std.specs.Prelude.{◌≡◌, [], nat_lt, MatchResult};
 ghost use Rattle.model.specs.Controller as model;
 ghost use Rattle.model.specs.Controller.{writes_in};
 ghost use Rattle.model.specs.Lists.{one};
+ghost use Rattle.model.specs.Options.{option_of};
 ghost use Rattle.model.specs.Plan as model_plan;
 ghost use Rattle.model.specs.Plan.{IsSound, next_in};
 ghost use Rattle.model.specs.Refusals.{bad_write};
-ghost use Rattle.plan.specs.View.{plan_of, Sized};
+ghost use Rattle.plan.specs.View.{plan_of};
 ghost use Rattle.policy.specs.View.{tasks_in, Tasks};
-ghost use Rattle.controller.specs.View.{block_of, write_of, Ready, Becomes, ReadyPart, Steps, Writes, fresh_block, no_part, PartOf, block_in, After, SetsUp, Replays};
+ghost use Rattle.refusals.specs.declared.Refusal.TheVariants.{BadWrite};
+ghost use Rattle.controller.specs.Block.{Ready, block_of};
+ghost use Rattle.controller.specs.View.{write_of, action_view, Becomes, Steps, refusal_of_result, Writes, fresh_block, PartOf, block_in, After, SetsUp, Replays};
 
-use node::Node;
-use plan::{Outcome, Plan, Task};
-use policy::Rules;
+use machine::Machine;
+pub use part::{Block, Controller};
+use plan::{Fault, Plan};
+use refusals::Refusal;
 
 // The bytes that may be written, and the value that runs a slot.
 const LABEL: u64 = 0;
@@ -28,53 +34,37 @@ const GO: u8 = 1;
 // All bytes.
 pub const BYTES: usize = 16;
 
-// The refusal of any other write.
-const BAD_WRITE: u64 = 17;
-
 // Status: a job finished; the label was not admitted.
 const FINISHED: u8 = 1;
 
 const NOT_ADMITTED: u8 = 2;
 
-// What writes change: the registers, and what no byte shows, the cells of the policy's jobs and the automaton's state.
-#[derive(Clone, Copy)]
-pub struct Block {
-    pub label: u8,
-    pub status: u8,
-    pub mask: u8,
-    pub ran: u8,
-    pub gain: u32,
-    pub cells: [u8; policy::CELLS],
-    pub state: u8,
+// What a write asks: that a label stands in byte 0, that a slot runs with it, or that a mask stands in byte 3.
+#[derive(Clone, Copy, Debug, PartialEq, Eq)]
+pub enum Action {
+    Label(u8),
+    Run,
+    Mask(u8),
 }
 
-// The part: the rules and the table of next states of its plan, and its block.
-#[derive(Clone, Copy)]
-pub struct Controller {
-    pub rules: Rules,
-    pub next: [u8; plan::PAIRS],
-    pub block: Block,
-}
-
-// What a write leaves: the block, and the refusal, 0 for none.
-#[derive(Clone, Copy)]
-pub struct Stepped {
-    pub block: Block,
-    pub refusal: u64,
-}
-
-// A part after a write, and the refusal, 0 for none.
-#[derive(Clone, Copy)]
-pub struct Written {
-    pub controller: Controller,
-    pub refusal: u64,
-}
-
-// Whether a part could be set up, and the part; one of no plan where the outcome is a fault.
-#[derive(Clone, Copy)]
-pub struct SetUp {
-    pub outcome: Outcome,
-    pub controller: Controller,
+impl Action {
+    // What a value written to a byte asks; any other write is refused.
+    pub fn of(byte: u64, value: u8) -> Result<Action, Refusal>
+        ensures { MatchResult result (λ w. action_view w ≡ write_of byte value) (λ r. (r ≡ BadWrite) × (model.refusal_of (write_of byte value) ≡ bad_write)) }
+    {
+        match byte {
+            LABEL => Ok(Action::Label(value)),
+            RUN => {
+                if value == GO {
+                    Ok(Action::Run)
+                } else {
+                    Err(Refusal::BadWrite)
+                }
+            }
+            MASK => Ok(Action::Mask(value)),
+            _ => Err(Refusal::BadWrite),
+        }
+    }
 }
 
 // The status after a slot with this gain: a job that is done has gained its value, which is not 0.
@@ -88,13 +78,12 @@ fn status_of(gain: u16) -> u8
 }
 
 // The block after one slot with its label, if that is admitted; it is cleared either way.
-fn run_slot(rules: Rules, next: &[u8; plan::PAIRS], block: Block) -> Block
-    requires { Ready rules next.now block }
-    ensures { Becomes rules next.now (λ P. model.ran_to P (block_of (tasks_in rules) block) (next_in P.arcs block.state block.label)) result }
+fn run_slot(machine: &Machine, block: Block) -> Block
+    requires { Ready machine.now.rules block }
+    ensures { Becomes machine.now.rules machine.now.next (λ P. model.ran_to P (block_of (tasks_in machine.now.rules) block) (next_in P.arcs block.state block.label)) result }
 {
     let cells = block.cells;
-    let to = plan::next_state(next, block.state, block.label);
-    if to == 0 {
+    let Some(state) = machine.next(block.state, block.label) else {
         return Block {
             label: 0,
             status: NOT_ADMITTED,
@@ -104,13 +93,12 @@ fn run_slot(rules: Rules, next: &[u8; plan::PAIRS], block: Block) -> Block
             cells,
             state: block.state,
         };
-    }
-    let done = policy::slot(rules, cells, block.label);
+    };
+    let done = policy::slot(&machine.rules, &cells, block.label);
     let older = done.cells;
     let status = status_of(done.gain);
     let ran = policy::task_number(done.ran);
-    let gain = std::num::wrapping_add_u32(block.gain, done.gain as u32);
-    let state = to - 1;
+    let gain = std::num::wrapping_add_u32(block.gain, u32::from(done.gain));
     Block {
         label: 0,
         status,
@@ -122,87 +110,61 @@ fn run_slot(rules: Rules, next: &[u8; plan::PAIRS], block: Block) -> Block
     }
 }
 
-// Whether a write runs a slot.
-fn runs(byte: u64, value: u8) -> bool
-    ensures { result ≡ model.runs (write_of byte value) }
+// The block after what a write asks.
+fn make(machine: &Machine, block: Block, action: Action) -> Block
+    requires { Ready machine.now.rules block }
+    ensures { Becomes machine.now.rules machine.now.next (λ P. model.after_write P (block_of (tasks_in machine.now.rules) block) (action_view action)) result }
 {
-    if byte != RUN {
-        return false;
+    let mut after = block;
+    match action {
+        Action::Label(label) => {
+            after.label = label;
+            after
+        }
+        Action::Mask(mask) => {
+            after.mask = mask;
+            after
+        }
+        Action::Run => run_slot(machine, block),
     }
-    value == GO
 }
 
-// The block after a write.
-pub fn step(rules: Rules, next: &[u8; plan::PAIRS], block: Block, byte: u64, value: u8) -> Block
-    requires { Ready rules next.now block }
-    ensures becomes { Becomes rules next.now (λ P. model.after_write P (block_of (tasks_in rules) block) (write_of byte value)) result }
-    ensures value { model.refusal_of (write_of byte value) ≡ bad_write → result ≡ block }
+// Makes a write to a block that is lent, which a refusal leaves as it was.
+pub fn step(machine: &Machine, block: &mut Block, byte: u64, value: u8) -> Result<(), Refusal>
+    requires { Ready machine.now.rules block.old }
+    ensures { Steps machine.now.rules machine.now.next block.old (write_of byte value) block.new (refusal_of_result result) }
 {
-    if byte == LABEL {
-        let mut after = block;
-        after.label = value;
-        return after;
-    }
-    if byte == MASK {
-        let mut after = block;
-        after.mask = value;
-        return after;
-    }
-    if runs(byte, value) {
-        return run_slot(rules, next, block);
-    }
-    block
+    let action = Action::of(byte, value)?;
+    *block = make(machine, *block, action);
+    Ok(())
 }
 
-// The refusal of a write, 0 for none.
-pub fn refusal_of(byte: u64, value: u8) -> u64
-    ensures { result ≡ model.refusal_of (write_of byte value) }
+// Whether a write is taken, or its refusal.
+pub fn refusal_of(byte: u64, value: u8) -> Result<(), Refusal>
+    ensures { refusal_of_result result ≡ model.refusal_of (write_of byte value) }
 {
-    if byte == LABEL {
-        return 0;
-    }
-    if byte == MASK {
-        return 0;
-    }
-    if runs(byte, value) {
-        return 0;
-    }
-    BAD_WRITE
+    Action::of(byte, value)?;
+    Ok(())
 }
 
-// A write to the part's block.
-fn step_part(controller: Controller, byte: u64, value: u8) -> Stepped
-    requires { ReadyPart controller }
-    ensures { Steps controller (write_of byte value) result }
+// The number of a write's refusal, 0 for none, as C and the texts have it.
+pub fn number_of(told: Result<(), Refusal>) -> u64
+    ensures { result ≡ refusal_of_result told }
 {
-    let rules = controller.rules;
-    let next = controller.next;
-    let block = step(rules, &next, controller.block, byte, value);
-    let refusal = refusal_of(byte, value);
-    Stepped { block, refusal }
-}
-
-// A write to the block of a part that is lent; its refusal, 0 for none.
-pub fn write(controller: &mut Controller, byte: u64, value: u8) -> u64
-    requires { ReadyPart controller.old }
-    ensures { Writes controller.old (write_of byte value) controller.new result }
-{
-    let after = step_part(*controller, byte, value);
-    controller.block = after.block;
-    after.refusal
-}
-
-// A write to a part by value.
-pub fn write_to(controller: Controller, byte: u64, value: u8) -> Written
-    requires { ReadyPart controller }
-    ensures { Writes controller (write_of byte value) result.controller result.refusal }
-{
-    let mut part = controller;
-    let refusal = write(&mut part, byte, value);
-    Written {
-        controller: part,
-        refusal,
+    match told {
+        Ok(()) => 0,
+        Err(r) => r.number(),
     }
+}
+
+// A write to the block of a part that is lent.
+pub fn write(controller: &mut Controller, byte: u64, value: u8) -> Result<(), Refusal>
+    ensures { Writes controller.old (write_of byte value) controller.new (refusal_of_result result) }
+{
+    let mut block = controller.block;
+    let told = step(&controller.machine, &mut block, byte, value);
+    controller.block = block;
+    told
 }
 
 // Byte 5: 1 where status and mask share a set bit, else 0.
@@ -220,11 +182,7 @@ pub fn registers(block: Block) -> [u8; BYTES]
     ensures { (ts : Tasks) → result ≡ model.registers (block_of ts block) }
 {
     let irq = interrupt(block.status, block.mask);
-    let gain = block.gain;
-    let lowest = (gain % 256) as u8;
-    let low = (gain / 256 % 256) as u8;
-    let high = (gain / 256 / 256 % 256) as u8;
-    let highest = (gain / 256 / 256 / 256 % 256) as u8;
+    let [highest, high, low, lowest] = block.gain.to_be_bytes();
     [
         block.label,
         0,
@@ -250,6 +208,7 @@ pub fn read(block: Block, byte: u64) -> u8
     ensures { (ts : Tasks) → result ≡ model.read_byte (block_of ts block) byte }
 {
     let bytes = registers(block);
+    // No From goes from u64 to usize, and this cast keeps the number: both have 64 bits.
     let at = byte as usize;
     if BYTES <= at {
         return 0;
@@ -273,118 +232,64 @@ fn fresh() -> Block
     }
 }
 
-// What is set up from no plan.
-fn no_part() -> Controller
-    ensures { result ≡ no_part }
-{
-    let none = Task {
-        work: 0,
-        window: 0,
-        value: 0,
-        locked: false,
-    };
-    let tasks = [none; Node::MAX_TASKS];
-    let table = [0u8; policy::SLOT_CELLS];
-    let next = plan::empty_table();
-    let rules = Rules {
-        tasks,
-        count: 0,
-        policy: 0,
-        left: table,
-        hold: table,
-    };
-    let block = fresh();
-    Controller { rules, next, block }
-}
-
 // The part of a sound plan, with a fresh block.
 fn part_of(plan: Plan) -> Controller
-    requires { Sized plan × IsSound (plan_of plan) }
+    requires { IsSound (plan_of plan) }
     ensures { After (plan_of plan) [] result }
 {
-    let next = plan.next;
-    let rules = policy::rules_of(plan);
+    let machine = Machine::of(plan);
     let block = fresh();
-    Controller { rules, next, block }
+    Controller { machine, block }
 }
 
 // Sets a part up from a plan, or tells the plan's fault.
-pub fn set_up(plan: &[u8]) -> SetUp
+pub fn set_up(plan: &[u8]) -> Result<Controller, Fault>
     ensures { SetsUp plan.now result }
 {
-    let read = plan::read(plan);
-    let outcome = read.outcome;
-    let found = read.plan;
-    match outcome {
-        Outcome::Faulty(f) => {
-            let controller = no_part();
-            SetUp {
-                outcome: Outcome::Faulty(f),
-                controller,
-            }
-        }
-        Outcome::Sound => {
-            let controller = part_of(found);
-            SetUp {
-                outcome: Outcome::Sound,
-                controller,
-            }
-        }
-    }
+    let found = plan::read(plan)?;
+    Ok(part_of(found))
 }
 
 // The block after writes, each a byte's number and a value.
-pub fn run_writes(rules: Rules, next: &[u8; plan::PAIRS], block: Block, writes: &[u8]) -> Block
-    requires { Ready rules next.now block }
-    ensures { Becomes rules next.now (λ P. model.after_writes P (block_of (tasks_in rules) block) (writes_in writes.now)) result }
+pub fn run_writes(machine: &Machine, block: Block, writes: &[u8]) -> Block
+    requires { Ready machine.now.rules block }
+    ensures { Becomes machine.now.rules machine.now.next (λ P. model.after_writes P (block_of (tasks_in machine.now.rules) block) (writes_in writes.now)) result }
 {
     let mut after = block;
-    let mut i = 0;
-    while i + 1 < writes.len() {
-        let byte = words::byte(writes, i);
-        after = step(rules, next, after, byte as u64, writes[i + 1]);
-        i += 2;
+    for i in 0..writes.len() / 2 {
+        let byte = u64::from(writes[2 * i]);
+        let _ = step(machine, &mut after, byte, writes[2 * i + 1]);
     }
     after
 }
 
-// The refusal of the last of the writes; 0 for none.
-pub fn last_refusal(writes: &[u8]) -> u64
-    ensures { result ≡ model.last_refusal (writes_in writes.now) }
+// The refusal of the last of the writes, if that is refused.
+pub fn last_refusal(writes: &[u8]) -> Result<(), Refusal>
+    ensures { refusal_of_result result ≡ model.last_refusal (writes_in writes.now) }
 {
     let n = writes.len();
     if n < 2 {
-        return 0;
+        return Ok(());
     }
     let at = n - n % 2 - 2;
-    let byte = words::byte(writes, at);
-    refusal_of(byte as u64, writes[at + 1])
+    let byte = u64::from(writes[at]);
+    refusal_of(byte, writes[at + 1])
 }
 
 // The registers of a part after writes.
-fn registers_after(controller: Controller, writes: &[u8]) -> [u8; BYTES]
-    requires { ReadyPart controller }
-    ensures { (P : model_plan.Plan) → PartOf P controller.rules controller.next → result ≡ model.registers (model.after_writes P (block_in controller) (writes_in writes.now)) }
+fn registers_after(controller: &Controller, writes: &[u8]) -> [u8; BYTES]
+    ensures { (P : model_plan.Plan) → PartOf P controller.now.machine.rules controller.now.machine.next → result ≡ model.registers (model.after_writes P (block_in controller.now) (writes_in writes.now)) }
 {
-    let rules = controller.rules;
-    let next = controller.next;
-    let block = run_writes(rules, &next, controller.block, writes);
+    let block = run_writes(&controller.machine, controller.block, writes);
     registers(block)
 }
 
 // The writes from a fresh block on, and the sixteen bytes as they then read. It answers the plan's fault, with the bytes as they were, or
-// the refusal of the last write, 0 for none.
-pub fn replay(plan: &[u8], writes: &[u8], out: &mut [u8; BYTES]) -> u64
-    ensures { Replays plan.now writes.now out.old out.new result }
+// the refusal of the last write.
+pub fn replay(plan: &[u8], writes: &[u8], out: &mut [u8; BYTES]) -> Result<(), Refusal>
+    ensures { Replays plan.now writes.now out.old out.new (refusal_of_result result) }
 {
-    let set = set_up(plan);
-    let outcome = set.outcome;
-    let controller = set.controller;
-    match outcome {
-        Outcome::Faulty(f) => f.number(),
-        Outcome::Sound => {
-            *out = registers_after(controller, writes);
-            last_refusal(writes)
-        }
-    }
+    let controller = set_up(plan)?;
+    *out = registers_after(&controller, writes);
+    last_refusal(writes)
 }

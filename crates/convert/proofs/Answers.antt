@@ -20,9 +20,8 @@ use Rattle.theory.proofs.Converted.{forth_converted, forth-carries, back_convert
 use Rattle.plan.specs.declared.Plan.{Plan}
 use Rattle.plan.specs.View.{plan_of}
 use Rattle.refusals.specs.declared.Refusal.TheVariants.{NotInFirst}
-use Rattle.refusals.specs.declared.Answer.{Answer}
-use Rattle.refusals.specs.declared.Answer.TheVariants.{Refused, Written}
-use Rattle.refusals.specs.Told.{Told}
+use Rattle.std.specs.Prelude.{Ok, Err}
+use Rattle.refusals.specs.Told.{Answer, Told}
 use Rattle.refusals.proofs.Told.{told_as, told-refusal, told-written, told-bytes}
 use Rattle.convert.specs.Promise.{SendsForth, SendsBack}
 
@@ -32,11 +31,11 @@ module _ (p : Plan) (before : List ℕ) where
   abbrev due : Bool → Writing model.Plan
   due b = cond b (writes (plan_of p)) (refuses not_in_first)
 
-  pub not_said : all (says first_edition) (plan_of p).tasks ≡ false → Told (plan_bytes_in first_edition) (back_of (plan_of p)) before before (Refused NotInFirst)
+  pub not_said : all (says first_edition) (plan_of p).tasks ≡ false → Told (plan_bytes_in first_edition) (back_of (plan_of p)) before before (Err NotInFirst)
   not_said e = told-refusal (plan_bytes_in first_edition) (back_of (plan_of p)) before NotInFirst (ap due e)
 
   pub said : all (says first_edition) (plan_of p).tasks ≡ true → (after : List ℕ) (n : ℕ) → n ≡ length (plan_bytes_in first_edition (plan_of p)) →
-      after ≡ overwrite before 0 (plan_bytes_in first_edition (plan_of p)) → Told (plan_bytes_in first_edition) (back_of (plan_of p)) before after (Written n)
+      after ≡ overwrite before 0 (plan_bytes_in first_edition (plan_of p)) → Told (plan_bytes_in first_edition) (back_of (plan_of p)) before after (Ok n)
   said e after n = told-written (plan_bytes_in first_edition) (back_of (plan_of p)) (plan_of p) before after n (ap due e)
 
 -- ---- what is promised

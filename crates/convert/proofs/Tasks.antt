@@ -14,7 +14,7 @@ use Rattle.model.specs.Convert.{says}
 use Rattle.model.proofs.Plan.{both}
 use Rattle.model.proofs.Tests.{implies_test, all-each}
 use Rattle.model.proofs.All.{all_from, all_done}
-use Rattle.plan.specs.declared.Task.{Task}
+use Rattle.plan.specs.declared.tasks.Task.{Task}
 use Rattle.plan.specs.View.{empty_task, task_view, tasks_of}
 use Rattle.plan.proofs.View.{tasks-length, task-given}
 use Rattle.plan_bytes.specs.Locks.{LocksFit}

@@ -2,11 +2,12 @@
 use mathlib.Core.Path.{◌≡◌, refl, sym, ap, ◌∙◌}
 use mathlib.Core.Bool.{Bool, true, false, cond, ◌&&◌}
 use mathlib.Core.List.{List}
-use mathlib.Core.Option.{Option, none, some}
+use mathlib.Core.Option.{Option, none}
 use Prim.Native.Nat.{ℕ, ◌*◌, ◌^◌, ◌≤◌, ◌<◌}
 use lib.Dec.{ltb, eqb}
 use lib.ListN.{length, get_or}
 use borrow.Author.Tests.{eq-eqb, ne_eqb, lt-ltb, le-ltb}
+use Rattle.std.specs.Prelude.{Some}
 use Rattle.model.specs.Certificate.{Certificate}
 use Rattle.model.specs.Check.{Reached, follow, closes, cycle_ok}
 use Rattle.model.specs.Graph.{Node, start, nodes, same_node}
@@ -51,26 +52,18 @@ module _ (P : Plan) (c : Certificate) where
 
 -- by what following the steps gives
 module _ (P : Plan) (c : Certificate) (recurs : c.q ≡ 0 → ⊥) (inside : c.node < length (nodes P)) (ts : Tasks) (from : graph.Node)
-    (named : node_of ts from ≡ get_or (nodes P) c.node start) (w : Walked)
-    (reached : reached_in ts w ≡ follow P c.steps (record { at = node_of ts from; kept = 0; ideal = 0 })) where
-  by_steps : (b : Bool) → w.found ≡ b →
-      closes c.p c.q (node_of ts from) (cond b (some (record { at = node_of ts w.at; kept = w.kept; ideal = w.ideal })) none) ≡ cycle_ok P (nodes P) c
-  by_steps b e =
-      ap (λ (f : Bool). closes c.p c.q (node_of ts from) (cond f (some (record { at = node_of ts w.at; kept = w.kept; ideal = w.ideal })) none)) (sym e)
-      ∙ cycle-inside P c recurs inside (node_of ts from) named (reached_in ts w) reached
-
+    (named : node_of ts from ≡ get_or (nodes P) c.node start) where
   -- a step is no edge
-  pub cycle_lost : w.found ≡ false → false ≡ cycle_ok P (nodes P) c
-  cycle_lost e = by_steps false e
+  pub cycle_lost : none ≡ follow P c.steps (record { at = node_of ts from; kept = 0; ideal = 0 }) → false ≡ cycle_ok P (nodes P) c
+  cycle_lost reached = cycle-inside P c recurs inside (node_of ts from) named none reached
 
-  -- the steps lead elsewhere
-  pub cycle_open : w.found ≡ true → same_node (node_of ts w.at) (node_of ts from) ≡ false → false ≡ cycle_ok P (nodes P) c
-  cycle_open e other = sym (ap (λ (b : Bool). b && ltb 0 w.ideal && eqb (c.p * w.ideal) (c.q * w.kept)) other) ∙ by_steps true e
-
-  -- they lead back
-  pub cycle-closed : w.found ≡ true → same_node (node_of ts w.at) (node_of ts from) ≡ true →
-      (ltb 0 w.ideal && eqb (c.p * w.ideal) (c.q * w.kept)) ≡ cycle_ok P (nodes P) c
-  cycle-closed e back = sym (ap (λ (b : Bool). b && ltb 0 w.ideal && eqb (c.p * w.ideal) (c.q * w.kept)) back) ∙ by_steps true e
+  -- the steps lead back, or elsewhere
+  pub cycle-walked : (w : Walked) → reached_in ts (Some w) ≡ follow P c.steps (record { at = node_of ts from; kept = 0; ideal = 0 }) →
+      (back : Bool) → same_node (node_of ts w.at) (node_of ts from) ≡ back →
+      (back && ltb 0 w.ideal && eqb (c.p * w.ideal) (c.q * w.kept)) ≡ cycle_ok P (nodes P) c
+  cycle-walked w reached back e =
+      sym (ap (λ (b : Bool). b && ltb 0 w.ideal && eqb (c.p * w.ideal) (c.q * w.kept)) e)
+      ∙ cycle-inside P c recurs inside (node_of ts from) named (reached_in ts (Some w)) reached
 
 -- rows are equal just if their nodes are
 pub same_end : (ts : Tasks) (m : List ℕ) (n : ℕ) → Holding ts m n → (j : ℕ) → j < n → (from at : graph.Node) → from ≡ node_in (row_at m j) →

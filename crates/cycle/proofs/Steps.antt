@@ -1,12 +1,13 @@
 -- A certificate's steps followed one after another. Assumes nothing.
 use mathlib.Core.Path.{◌≡◌, refl, sym, ap, ◌∙◌}
-use mathlib.Core.Bool.{Bool, true, false, cond}
 use mathlib.Core.List.{List, [], ◌∷◌}
 use mathlib.Core.Option.{Option, none, some}
 use Prim.Native.Nat.{ℕ, ◌+◌, ◌≤◌, ◌<◌}
 use native.Mathlib.Numerals.{add-one}
 use lib.ListN.{length, drop, drop_of_length-le}
 use lib.Seq.{drop-cons}
+use Rattle.std.specs.Prelude as rust
+use Rattle.std.specs.Prelude.{None, Some}
 use Rattle.model.specs.Certificate.{Step}
 use Rattle.model.specs.Check.{find_step, Reached, follow}
 use Rattle.model.specs.Graph as model
@@ -50,24 +51,21 @@ steps-done P ss j r h = ap (λ (l : List Step). follow P l r) (drop_of_length-le
 
 -- the step j, whose edge is found by its label and masks
 module _ (P : Plan) (ts : Tasks) (ss : List Step) (j : ℕ) (below : j < length ss) (u : Node) (kept ideal : ℕ)
-    (s : Step) (is : s ≡ step_at ss j) (e : Edge) (found : edge_end ts e ≡ end_in (find_step s (edges P (node_of ts u)))) where
-  by_end : follow P (drop j ss) (here ts u kept ideal) ≡ after P (drop (j + 1) ss) (here ts u kept ideal) (edge_end ts e)
-  by_end =
+    (s : Step) (is : s ≡ step_at ss j) where
+  by_end : (o : rust.Option Edge) → edge_end ts o ≡ end_in (find_step s (edges P (node_of ts u))) →
+      follow P (drop j ss) (here ts u kept ideal) ≡ after P (drop (j + 1) ss) (here ts u kept ideal) (edge_end ts o)
+  by_end o found =
       ap (λ (l : List Step). follow P l (here ts u kept ideal))
       (drop-cons ss j (record { label = 0; masks = [] }) below ∙ (λ i. sym is i ∷ drop (sym (add-one j) i) ss))
       ∙ follow-first P s (drop (j + 1) ss) (here ts u kept ideal)
       ∙ ap (after P (drop (j + 1) ss) (here ts u kept ideal)) (sym found)
 
-  pub step_lost : e.found ≡ false → follow P (drop j ss) (here ts u kept ideal) ≡ none
-  step_lost not =
-      by_end
-      ∙ ap (λ (b : Bool). after P (drop (j + 1) ss) (here ts u kept ideal) (cond b (some (record { to = node_of ts e.to; kept = e.kept; ideal = e.ideal })) none)) not
+  pub step_lost : none ≡ end_in (find_step s (edges P (node_of ts u))) → follow P (drop j ss) (here ts u kept ideal) ≡ none
+  step_lost none_found = by_end None none_found
 
-  pub step-taken : e.found ≡ true →
+  pub step-taken : (e : Edge) → edge_end ts (Some e) ≡ end_in (find_step s (edges P (node_of ts u))) →
       follow P (drop j ss) (here ts u kept ideal) ≡ follow P (drop (j + 1) ss) (here ts e.to (kept + e.kept) (ideal + e.ideal))
-  step-taken is_found =
-      by_end
-      ∙ ap (λ (b : Bool). after P (drop (j + 1) ss) (here ts u kept ideal) (cond b (some (record { to = node_of ts e.to; kept = e.kept; ideal = e.ideal })) none)) is_found
+  step-taken e found = by_end (Some e) found
 
 -- the plans of a table lead where the table does
 pub planned-follow : {P : Plan} {r : Rules} {next : List ℕ} → Planned P r next → (ss : List Step) (x : Reached) →

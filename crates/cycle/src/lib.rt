@@ -8,104 +8,70 @@ ghost use Rattle.model.specs.Graph.{nodes};
 ghost use Rattle.model.specs.Limits.{max_states};
 ghost use Rattle.model.specs.Masks.{mask_count};
 ghost use Rattle.model.specs.Plan.{Plan};
+ghost use Rattle.plan.specs.View.{TableFits};
 ghost use Rattle.certificate.specs.View.{certificate_of, IsRead};
-ghost use Rattle.policy.specs.View.{cell_count, Cells, tasks_in, Ruled};
-ghost use Rattle.graph.specs.View.{Planned, TableFits};
+ghost use Rattle.policy.specs.View.{cell_count, Cells, tasks_in};
+ghost use Rattle.graph.specs.View.{Planned};
 ghost use Rattle.discovery.specs.Discovery.{Holds, Held};
-ghost use Rattle.cycle.specs.Cycle.{lost_from, Followed};
+ghost use Rattle.cycle.specs.Cycle.{Followed};
 
 use certificate::Parts;
+use fraction::Fraction;
+use machine::Machine;
 use node::Node;
-use policy::Rules;
 
-// Where steps lead and the sums of both gains, if they are edges.
+// Where steps lead, and the sums of both gains.
 #[derive(Clone, Copy)]
 struct Walked {
-    found: bool,
     at: Node,
     kept: u32,
     ideal: u32,
 }
 
-// The steps are not all edges.
-fn lost(from: Node) -> Walked
-    ensures { result ≡ lost_from from }
-{
-    Walked {
-        found: false,
-        at: from,
-        kept: 0,
-        ideal: 0,
-    }
-}
-
-// Where the steps of a certificate lead from a node.
-fn follow(next: &[u8; plan::PAIRS], rules: Rules, s: &[u8], parts: Parts, from: Node) -> Walked
-    requires ruled { Ruled rules × TableFits next.now rules.count × IsRead long_reads s.now parts }
-    requires cells { Cells (tasks_in rules) cell_count from.cells × (from.state < max_states) × (from.taken < mask_count) }
-    ensures { Followed next.now rules (certificate_of long_reads s.now parts).steps from result }
+// Where the steps of a certificate lead from a node, if they are edges.
+fn follow(machine: &Machine, s: &[u8], parts: Parts, from: Node) -> Option<Walked>
+    requires read { IsRead long_reads s.now parts }
+    requires table { TableFits machine.now.next machine.now.rules.tasks.count }
+    requires cells { Cells (tasks_in machine.now.rules) cell_count from.cells × (from.state < max_states) × (from.taken < mask_count) }
+    ensures { Followed machine.now.next machine.now.rules (certificate_of long_reads s.now parts).steps from result }
 {
     let mut at = from;
     let mut kept = 0;
     let mut ideal = 0;
-    let mut j = 0;
-    while j < parts.steps {
+    for j in 0..parts.steps {
         let label = certificate::step_label(s, parts, j);
         let masks = certificate::step_masks(s, parts, j);
-        let edge = graph::edge_by(next, rules, at, label, masks);
-        if !edge.found {
-            return lost(from);
-        }
+        let edge = graph::edge_by(machine, &at, label, masks)?;
         at = edge.to;
-        kept += edge.kept as u32;
+        kept += u32::from(edge.kept);
         ideal += edge.ideal;
-        j += 1;
     }
-    Walked {
-        found: true,
-        at,
-        kept,
-        ideal,
-    }
+    Some(Walked { at, kept, ideal })
 }
 
 // Whether the sums of a cycle are in the ratio p/q, the clairvoyant's above 0.
-fn is_tight(p: u32, q: u32, kept: u32, ideal: u32) -> bool
-    ensures { result ≡ (ltb 0 ideal && eqb (p * ideal) (q * kept)) }
+fn is_tight(fraction: Fraction, kept: u32, ideal: u32) -> bool
+    ensures { result ≡ (ltb 0 ideal && eqb (fraction.p * ideal) (fraction.q * kept)) }
 {
-    if ideal == 0 {
-        return false;
-    }
-    p as u64 * ideal as u64 == q as u64 * kept as u64
+    0 < ideal && u64::from(fraction.p) * u64::from(ideal) == u64::from(fraction.q) * u64::from(kept)
 }
 
 // Whether the steps are edges from the named node back to it, in the ratio of the fraction.
-pub fn holds(
-    next: &[u8; plan::PAIRS],
-    rules: Rules,
-    s: &[u8],
-    parts: Parts,
-    m: &[u8],
-    n: usize,
-) -> bool
-    requires { Ruled rules × Held rules next.now m.now n × IsRead long_reads s.now parts }
-    ensures { (P : Plan) → Planned P rules next.now → Holds P (tasks_in rules) m.now n → result ≡ cycle_ok P (nodes P) (certificate_of long_reads s.now parts) }
+pub fn holds(machine: &Machine, s: &[u8], parts: Parts, m: &[u8], n: usize) -> bool
+    requires { Held machine.now.rules machine.now.next m.now n × IsRead long_reads s.now parts }
+    ensures { (P : Plan) → Planned P machine.now.rules machine.now.next → Holds P (tasks_in machine.now.rules) m.now n → result ≡ cycle_ok P (nodes P) (certificate_of long_reads s.now parts) }
 {
-    if parts.q == 0 {
+    if parts.fraction.q == 0 {
         return true;
     }
     if n <= parts.node {
         return false;
     }
     let row = store::row(m, parts.node);
-    let from = discovery::node_of(row);
-    let walked = follow(next, rules, s, parts, from);
-    if !walked.found {
+    let from = discovery::node_of(&row);
+    let Some(walked) = follow(machine, s, parts, from) else {
         return false;
-    }
-    let end = discovery::row_of(walked.at);
-    if !store::same_row(m, parts.node, &end) {
-        return false;
-    }
-    is_tight(parts.p, parts.q, walked.kept, walked.ideal)
+    };
+    let end = discovery::row_of(&walked.at);
+    store::same_row(m, parts.node, &end) && is_tight(parts.fraction, walked.kept, walked.ideal)
 }

@@ -1,13 +1,12 @@
 -- The discovery's beginning, and its answer. Assumes nothing.
 use mathlib.Core.Path.{◌≡◌, refl, sym, ap, subst, ◌∙◌}
-use mathlib.Core.Bool.{Bool, true, false, cond}
+use mathlib.Core.Bool.{Bool, cond}
 use mathlib.Core.List.{List, [], ◌∷◌}
 use mathlib.Core.Option.{none, some}
-use Prim.Native.Nat.{ℕ, suc, ◌≤◌, ◌<◌}
+use Prim.Native.Nat.{ℕ, ◌<◌}
 use native.Mathlib.Omega.{arith}
-use lib.Dec.{ltb}
 use lib.ListN.{length}
-use borrow.Author.Tests.{ltb-true, ltb-false, lt-ltb, le-ltb}
+use borrow.Author.Tests.{lt-ltb, le-ltb}
 use Rattle.words.proofs.Free.{only_trans}
 use Rattle.model.specs.Bytes.{Only}
 use Rattle.model.specs.Graph as model
@@ -23,8 +22,8 @@ use Rattle.node.specs.Start.{start_node}
 use Rattle.node.specs.declared.Node.{Node}
 use Rattle.store.specs.Store.{store_bytes, row_at, rows_in, Indexed}
 use Rattle.store.proofs.Rows.{distinct_none}
-use Rattle.discovery.specs.declared.Discovered.{Discovered}
-use Rattle.discovery.specs.declared.Discovered.TheVariants.{TooMany, Nodes}
+use Rattle.std.specs.Prelude as rust
+use Rattle.std.specs.Prelude.{None, Some}
 use Rattle.discovery.proofs.Held.{held-count, held-node}
 use Rattle.discovery.proofs.Whole.{state-below, taken-below}
 use Rattle.discovery.specs.Discovery.{node_in, nodes_in, Holding, Known, Stored, Adds, Begun, Holds, Discovers}
@@ -32,55 +31,45 @@ use Rattle.discovery.specs.Discovery.{node_in, nodes_in, Holding, Known, Stored,
 pub none-stored : (m : List ℕ) → Indexed m 0 → Stored m 0
 none-stored m index = record { index = index; distinct = distinct_none m }
 
--- the start node joins them
-pub begun : (r : Rules) (u : Node) → u ≡ start_node → (m m' : List ℕ) (q : ℕ) → Indexed m 0 →
-    Adds u.cells (λ ts. node_of ts u ∷ []) m 0 m' q → Begun r m' q × Only 0 store_bytes m m'
-unfolding nodes_in rows_in
-begun r u e m m' q index adds =
-    let none-held : Holding (tasks_in r) m 0 = record { index = index; distinct = distinct_none m; cells = λ j h. absurd (omega arith); rows = λ j h. absurd (omega arith) } in
-    let known = adds.known (tasks_in r) none-held (subst (λ (v : Node). Cells (tasks_in r) cell_count v.cells) (sym e) (start-cells (tasks_in r))) in
-    let one : q ≤ max_nodes = by (ltb max_nodes q) refl known.many in
-    (record { held = (known.held one).0; nodes = (known.held one).1 ∙ ap (λ (v : model.Node). v ∷ []) (ap (node_of (tasks_in r)) e ∙ start_view (tasks_in r)) }, known.only)
-  where
-    by : (b : Bool) → ltb max_nodes q ≡ b → (max_nodes < q → max_nodes < 1) → q ≤ max_nodes
-    by true e many = absurd (omega (arith, many (ltb-true max_nodes q e)))
-    by false e many = ltb-false max_nodes q e
+-- the start node joins them, for which there is room
+module _ (r : Rules) (u : Node) (e : u ≡ start_node) (m m' : List ℕ) (index : Indexed m 0) where
+  joined : (o : rust.Option ℕ) → Adds u.cells (λ ts. node_of ts u ∷ []) m 0 m' o → Known (tasks_in r) (node_of (tasks_in r) u ∷ []) m m' o
+  unfolding nodes_in rows_in
+  joined o adds =
+      let none-held : Holding (tasks_in r) m 0 = record { index = index; distinct = distinct_none m; cells = λ j h. absurd (omega arith); rows = λ j h. absurd (omega arith) } in
+      adds.known (tasks_in r) none-held (subst (λ (v : Node). Cells (tasks_in r) cell_count v.cells) (sym e) (start-cells (tasks_in r)))
 
--- the number in an answer, and 1; 0 for none
-abbrev place : Discovered → ℕ
-place TooMany = 0
-place (Nodes n) = suc n
+  pub begun-some : Adds u.cells (λ ts. node_of ts u ∷ []) m 0 m' None → ⊥
+  begun-some adds = omega (arith, (joined None adds).many refl)
 
--- the answer by the number of rows
-module _ (r : Rules) (next first begin after : List ℕ) (q : ℕ) (some-plan : Planning r next) (kept : Only 0 store_bytes first begin)
-    (known : (P : Plan) → Planned P r next → Known (tasks_in r) (nodes P) begin after q) where
-  only : Only 0 store_bytes first after
-  only = only_trans kept (known some-plan.plan some-plan.planned).only
+  pub begun : (q : ℕ) → Adds u.cells (λ ts. node_of ts u ∷ []) m 0 m' (Some q) → Begun r m' q × Only 0 store_bytes m m'
+  begun q adds =
+      let known = joined (Some q) adds in
+      let held = known.held q refl in (
+        record { held = held.0; nodes = held.1 ∙ ap (λ (v : model.Node). v ∷ []) (ap (node_of (tasks_in r)) e ∙ start_view (tasks_in r)) },
+        known.only,
+      )
 
+-- the answer
+module _ (r : Rules) (next first begin after : List ℕ) (some-plan : Planning r next) (kept : Only 0 store_bytes first begin) where
   answer : (P : Plan) (b : Bool) → too_large P ≡ b → cond b none (some (length (nodes P))) ≡ cond (too_large P) none (some (length (nodes P)))
   answer P b e = ap (λ (t : Bool). cond t none (some (length (nodes P)))) (sym e)
 
-  pub discovers_many : max_nodes < q → Discovers r next first after TooMany
+  pub discovers : (o : rust.Option ℕ) → ((P : Plan) → Planned P r next → Known (tasks_in r) (nodes P) begin after o) → Discovers r next first after o
   unfolding too_large
-  discovers_many more = record {
-    answer = λ P p. answer P _ (lt-ltb max_nodes (length (nodes P)) ((known P p).many more));
-    held = λ n e. absurd (omega (arith, ap place e));
-    only = only;
+  discovers None known = record {
+    answer = λ P p. answer P _ (lt-ltb max_nodes (length (nodes P)) ((known P p).many refl));
+    held = λ n e. cc;
+    only = only_trans kept (known some-plan.plan some-plan.planned).only;
   }
-
-  pub discovers_nodes : q ≤ max_nodes → Discovers r next first after (Nodes q)
-  unfolding too_large
-  discovers_nodes few = record {
-    answer = λ P p.
-        ap some (size P p) ∙ answer P _ (le-ltb max_nodes (length (nodes P)) (omega (arith, size P p)));
-    held = λ n e P p.
-        subst (λ (k : ℕ). Holds P (tasks_in r) after k) (let same : q ≡ n = omega (arith, ap place e) in same)
-        record { rows = ((known P p).held few).0; nodes = ((known P p).held few).1 };
-    only = only;
+  discovers (Some q) known = record {
+    answer = λ P p. ap some (size P p) ∙ answer P _ (le-ltb max_nodes (length (nodes P)) (omega (arith, size P p, ((known P p).held q refl).0.index.few)));
+    held = λ n e P p. let h = (known P p).held n e in record { rows = h.0; nodes = h.1 };
+    only = only_trans kept (known some-plan.plan some-plan.planned).only;
   }
     where
       size : (P : Plan) → Planned P r next → q ≡ length (nodes P)
-      size P p = sym (held-count (tasks_in r) after q (nodes P) ((known P p).held few).1)
+      size P p = sym (held-count (tasks_in r) after q (nodes P) ((known P p).held q refl).1)
 
 -- the nodes of a sound plan are in its states
 pub node-state : (P : Plan) (ts : Tasks) (m : List ℕ) (n : ℕ) → Holds P ts m n → IsSound P → (u : ℕ) → u < n → (node_in (row_at m u)).state < max_states

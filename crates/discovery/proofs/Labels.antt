@@ -3,6 +3,7 @@ use mathlib.Core.Path.{◌≡◌, sym, ap, subst, ◌∙◌}
 use mathlib.Core.Option.{some}
 use mathlib.Core.List.{List, map, foldl}
 use Prim.Native.Nat.{ℕ, ◌/◌}
+use Rattle.std.specs.Prelude as rust
 use Rattle.model.specs.Discovery.{add}
 use Rattle.model.specs.Graph as model
 use Rattle.model.specs.Graph.{choices, joined, edges_to, same_node}
@@ -18,7 +19,7 @@ use Rattle.graph.proofs.Adding.{add-patterns}
 use Rattle.discovery.specs.Discovery.{nodes_in, Holding, Known, Adds, nodes_with, Explored}
 
 -- the nodes of these patterns are those that the label leads to
-pub label-explored : (r : Rules) (u : Node) (l s : ℕ) (d : Done) (ps : List ℕ) (m : List ℕ) (n : ℕ) (m' : List ℕ) (q : ℕ) →
+pub label-explored : (r : Rules) (u : Node) (l s : ℕ) (d : Done) (ps : List ℕ) (m : List ℕ) (n : ℕ) (m' : List ℕ) (q : rust.Option ℕ) →
     ps ≡ firsts (map (λ ms. joined u.taken ms / 2) (choices (tasks_in r) l u.taken)) → Slotted r u.cells l d → Holding (tasks_in r) m n →
     Adds d.cells (nodes_with d.cells s ps) m n m' q → Explored r (λ P. edges_to P (node_of (tasks_in r) u) l (some s)) m n m' q
 label-explored r u l s d ps m n m' q order slotted held adds = record {

@@ -2,7 +2,7 @@
 use mathlib.Core.Path.{◌≡◌, refl, sym, ap, ap₂, subst, ◌∙◌}
 use mathlib.Core.Bool.{Bool, true, false, cond}
 use mathlib.Core.List.{List, [], ◌∷◌, ◌++◌, map, map-append}
-use Prim.Native.Nat.{ℕ, suc, ◌+◌, ◌*◌, ◌^◌, ◌≤◌, ◌<◌}
+use Prim.Native.Nat.{ℕ, suc, ◌+◌, ◌*◌, ◌^◌, ◌<◌}
 use native.Mathlib.Omega.{arith}
 use lib.Dec.{ltb}
 use lib.Seq.{get_or-append_seam}
@@ -12,7 +12,6 @@ use Rattle.model.specs.Bytes.{bytes}
 use Rattle.model.specs.Discovery.{among, add, number_in}
 use Rattle.model.specs.Graph as model
 use Rattle.model.specs.Graph.{same_node}
-use Rattle.model.specs.Limits.{max_nodes}
 use Rattle.model.specs.Lists.{same_numbers}
 use Rattle.model.proofs.Discovery.{among-number}
 use Rattle.theory.proofs.Nodes.{same-node}
@@ -21,8 +20,9 @@ use Rattle.graph.specs.View.{node_of}
 use Rattle.node.specs.declared.Node.{Node}
 use Rattle.graph.proofs.View.{same_view}
 use Rattle.words.proofs.Memory.{part_length}
-use Rattle.store.specs.declared.Found.{Found}
-use Rattle.store.specs.declared.Found.TheVariants.{Full, At}
+use Rattle.std.specs.Prelude as rust
+use Rattle.std.specs.Prelude.{None, Some}
+use Rattle.store.specs.declared.Place.{Place}
 use Rattle.store.specs.Store.{row_bytes, max_rows, row_at, rows_in, index_in, Distinct, Indexed, rows_with, found_in, count_after, Kept}
 use Rattle.store.proofs.Rows.{rows-length, rows_at}
 use Rattle.model.proofs.Tests.{same_decided, same_numbers_lem}
@@ -139,59 +139,65 @@ module _ (ts : Tasks) (u : Node) (fits : Cells ts cell_count u.cells) (small : u
   ok = held-row ts m n held
 
   -- an answer with a number of rows, which are these
-  known_at : (i c : ℕ) (after : List (List ℕ)) → Kept m m' n (row_of u) (At i c) → rows_in m' c ≡ after →
-      ((j : ℕ) → j < length after → Row ts (get_or after j [])) → map (view_of ts) after ≡ target → Known ts target m m' c
+  known_at : (p : Place) (after : List (List ℕ)) → Kept m m' n (row_of u) (Some p) → rows_in m' p.count ≡ after →
+      ((j : ℕ) → j < length after → Row ts (get_or after j [])) → map (view_of ts) after ≡ target → Known ts target m m' (Some p.count)
   unfolding nodes_in
-  known_at i c after kept e good same = record {
-    held = λ few. (holding ts m' c after e kept.index kept.distinct good, ap (map (view_of ts)) e ∙ same);
-    many = λ more. absurd (omega (arith, kept.index.few));
+  known_at p after kept e good same = record {
+    held = λ k h.
+        let at : p.count ≡ k = cc in
+        subst (λ (c : ℕ). Holding ts m' c × (nodes_in ts m' c ≡ target)) at
+        (holding ts m' p.count after e kept.index kept.distinct good, ap (map (view_of ts)) e ∙ same);
+    many = λ h. cc;
     only = kept.only;
   }
 
-  known_kept : (r : Found) → Kept m m' n (row_of u) r → Known ts target m m' (count_in r)
+  known_kept : (r : rust.Option Place) → Kept m m' n (row_of u) r → Known ts target m m' (count_in r)
   unfolding nodes_in found_in rows_with
   known_kept r kept = by (ltb (index_in rows (row_of u)) (length rows)) refl (ltb (length rows) max_rows) refl kept.found kept.rows
     where
       i : ℕ
       i = index_in rows (row_of u)
 
-      Result : Found → Type 0
+      placed : ℕ → Place
+      placed c = record { index = i; count = c }
+
+      Result : rust.Option Place → Type 0
       Result q = Known ts target m m' (count_in q)
 
       by : (a : Bool) → ltb i (length rows) ≡ a → (b : Bool) → ltb (length rows) max_rows ≡ b →
-          r ≡ cond a (At i (length rows)) (cond b (At i (length rows + 1)) Full) →
+          r ≡ cond a (Some (placed (length rows))) (cond b (Some (placed (length rows + 1))) None) →
           rows_in m' (count_after n r) ≡ cond a rows (cond b (rows ++ (row_of u ∷ [])) rows) → Result r
       by true e b f at same =
           subst Result (sym at)
-          (known_at i (length rows) rows (subst (Kept m m' n (row_of u)) at kept)
-          (ap (λ (q : Found). rows_in m' (count_after n q)) (sym at) ∙ same) ok (sym (add_there ts u fits small rows ok e)))
+          (known_at (placed (length rows)) rows (subst (Kept m m' n (row_of u)) at kept)
+          (ap (λ (q : rust.Option Place). rows_in m' (count_after n q)) (sym at) ∙ same) ok (sym (add_there ts u fits small rows ok e)))
       by false e true f at same =
           subst Result (sym at)
-          (known_at i (length rows + 1) (rows ++ (row_of u ∷ [])) (subst (Kept m m' n (row_of u)) at kept)
-          (ap (λ (q : Found). rows_in m' (count_after n q)) (sym at) ∙ same) (with_own ts u fits small rows ok)
+          (known_at (placed (length rows + 1)) (rows ++ (row_of u ∷ [])) (subst (Kept m m' n (row_of u)) at kept)
+          (ap (λ (q : rust.Option Place). rows_in m' (count_after n q)) (sym at) ∙ same) (with_own ts u fits small rows ok)
           (new_nodes ts u fits small rows ok ∙ sym (add_new ts u fits small rows ok e)))
       by false e false f at same =
           let more : length target ≡ length rows + 1 =
           ap length (add_new ts u fits small rows ok e) ∙ length-append (map (view_of ts) rows) (node_of ts u ∷ [])
           ∙ ap (λ (k : ℕ). k + 1) (length-map rows (view_of ts)) in
           subst Result (sym at) record {
-            held = λ few. absurd (omega arith);
+            held = λ k h. cc;
             many = λ h. omega (arith, more, ltb-false (length rows) max_rows f);
             only = kept.only;
           }
 
 -- the same, with what is known of the row and of the answer
-pub adds_answer : (u : Node) → u.taken < 256 ^ pattern_bytes → (m m' : List ℕ) (n : ℕ) (row : List ℕ) → row ≡ row_of u → (r q : Found) → Kept m m' n row r → r ≡ q →
+pub adds_answer : (u : Node) → u.taken < 256 ^ pattern_bytes → (m m' : List ℕ) (n : ℕ) (row : List ℕ) → row ≡ row_of u → (r q : rust.Option Place) → Kept m m' n row r → r ≡ q →
     Adds u.cells (λ ts. node_of ts u ∷ []) m n m' (count_in q)
-adds_answer u small m m' n row same r q kept e = record { stored = λ few. stored q (subst (Kept m m' n (row_of u)) e kept') few; known = known }
+adds_answer u small m m' n row same r q kept e = record { stored = stored q (subst (Kept m m' n (row_of u)) e kept'); known = known }
   where
     kept' : Kept m m' n (row_of u) r
     kept' = subst (λ (l : List ℕ). Kept m m' n l r) same kept
 
-    stored : (a : Found) → Kept m m' n (row_of u) a → count_in a ≤ max_nodes → Stored m' (count_in a)
-    stored Full k few = absurd (omega arith)
-    stored (At i c) k few = record { index = k.index; distinct = k.distinct }
+    stored : (a : rust.Option Place) → Kept m m' n (row_of u) a → (k : ℕ) → count_in a ≡ Some k → Stored m' k
+    stored None kept k h = cc
+    stored (Some p) kept k h = let at : p.count ≡ k = cc in subst (Stored m') at (record { index = kept.index; distinct = kept.distinct })
 
     known : (ts : Tasks) → Holding ts m n → Cells ts cell_count u.cells → Known ts (add same_node (nodes_in ts m n) (node_of ts u)) m m' (count_in q)
     known ts held fits =
-        subst (λ (a : Found). Known ts (add same_node (nodes_in ts m n) (node_of ts u)) m m' (count_in a)) e (known_kept ts u fits small m m' n held r kept')
+        subst (λ (a : rust.Option Place). Known ts (add same_node (nodes_in ts m n) (node_of ts u)) m m' (count_in a)) e (known_kept ts u fits small m m' n held r kept')

@@ -1,6 +1,8 @@
 -- The nodes of a graph as rows of the node store.
+use Rattle.std.specs.Prelude as rust
+use Rattle.std.specs.Prelude.{None, Some}
 use Rattle.std.specs.Prelude.{◌≡◌, cond, ℕ, ◌+◌, ◌<◌, ◌≤◌, length, get_or, take}
-use Rattle.std.proofs.Math.Option.{Option, none, some}
+use Rattle.std.proofs.Math.Option.{none, some}
 use mathlib.Core.List.{List, [], ◌∷◌, ◌++◌, map, foldl}
 use Rattle.model.specs.Bytes.{number, bytes, part, Only}
 use Rattle.model.specs.Discovery.{add}
@@ -14,10 +16,8 @@ use Rattle.policy.specs.View.{Tasks, cell_count, jobs_of, Cells, tasks_in, PlanF
 use Rattle.policy.specs.declared.Rules.{Rules}
 use Rattle.graph.specs.View.{node_of, Planned}
 use Rattle.node.specs.declared.Node.{Node}
-use Rattle.store.specs.declared.Found.{Found}
-use Rattle.store.specs.declared.Found.TheVariants.{Full, At}
-use Rattle.discovery.specs.declared.Discovered.{Discovered}
-use Rattle.discovery.specs.declared.Discovered.TheVariants.{TooMany, Nodes}
+use Rattle.store.specs.declared.Place.{Place}
+use Rattle.model.specs.Options.{option_of}
 use Rattle.store.specs.Store.{store_bytes, row_at, rows_in, Distinct, Indexed}
 
 abbrev pub pattern_bytes : ℕ
@@ -52,18 +52,15 @@ pub record Holding (ts : Tasks) (memory : List ℕ) (n : ℕ) : Type 0 where
   pub cells : (j : ℕ) → j < n → Cells ts cell_count (node_in (row_at memory j)).cells
   pub rows : (j : ℕ) → j < n → row_of (node_in (row_at memory j)) ≡ row_at memory j
 
--- the number of nodes where there are too many, and the number after an answer
-abbrev pub too_many : ℕ
-too_many = max_nodes + 1
-
-abbrev pub count_in : Found → ℕ
-count_in Full = too_many
-count_in (At index count) = count
+-- the number of nodes after an answer, none where there are too many
+abbrev pub count_in : rust.Option Place → rust.Option ℕ
+count_in None = None
+count_in (Some p) = Some p.count
 
 -- r rows hold the nodes, in order, or these are too many; the bytes behind the store are as they were
-pub record Known (ts : Tasks) (nodes : List model.Node) (before after : List ℕ) (r : ℕ) : Type 0 where
-  pub held : r ≤ max_nodes → Holding ts after r × (nodes_in ts after r ≡ nodes)
-  pub many : max_nodes < r → max_nodes < length nodes
+pub record Known (ts : Tasks) (nodes : List model.Node) (before after : List ℕ) (r : rust.Option ℕ) : Type 0 where
+  pub held : (n : ℕ) → r ≡ Some n → Holding ts after n × (nodes_in ts after n ≡ nodes)
+  pub many : r ≡ None → max_nodes < length nodes
   pub only : Only 0 store_bytes before after
 
 -- n distinct rows and their index
@@ -72,8 +69,8 @@ pub record Stored (memory : List ℕ) (n : ℕ) : Type 0 where
   pub distinct : Distinct (rows_in memory n)
 
 -- the nodes vs, whose cells are these, join those of n rows: then there are r rows
-pub record Adds (cells : List ℕ) (vs : Tasks → List model.Node) (before : List ℕ) (n : ℕ) (after : List ℕ) (r : ℕ) : Type 0 where
-  pub stored : r ≤ max_nodes → Stored after r
+pub record Adds (cells : List ℕ) (vs : Tasks → List model.Node) (before : List ℕ) (n : ℕ) (after : List ℕ) (r : rust.Option ℕ) : Type 0 where
+  pub stored : (k : ℕ) → r ≡ Some k → Stored after k
   pub known : (ts : Tasks) → Holding ts before n → Cells ts cell_count cells → Known ts (foldl (add same_node) (nodes_in ts before n) (vs ts)) before after r
 
 -- the nodes with these cells and this state, one for each pattern
@@ -84,7 +81,7 @@ abbrev pub nodes_with : List ℕ → ℕ → List ℕ → Tasks → List model.N
 nodes_with cells state ps ts = map (node_with ts cells state) ps
 
 -- the targets of these edges join the nodes of n rows
-pub record Explored (r : Rules) (edges_of : Plan → List model.Edge) (before : List ℕ) (n : ℕ) (after : List ℕ) (q : ℕ) : Type 0 where
+pub record Explored (r : Rules) (edges_of : Plan → List model.Edge) (before : List ℕ) (n : ℕ) (after : List ℕ) (q : rust.Option ℕ) : Type 0 where
   pub known : (P : Plan) → PlanFor P r → Known (tasks_in r) (foldl (add same_node) (nodes_in (tasks_in r) before n) (map (λ e. e.to) (edges_of P))) before after q
 
 -- the edges of a label, and of the first k labels, by the table of next states
@@ -101,11 +98,6 @@ pub record Begun (r : Rules) (memory : List ℕ) (n : ℕ) : Type 0 where
 
 -- ---- the answer
 
--- the number of nodes, if there are not too many
-abbrev pub size_of : Discovered → Option ℕ
-size_of TooMany = none
-size_of (Nodes n) = some n
-
 -- n rows hold the plan's nodes, in order
 pub record Holds (P : Plan) (ts : Tasks) (memory : List ℕ) (n : ℕ) : Type 0 where
   pub rows : Holding ts memory n
@@ -118,7 +110,7 @@ pub record Held (r : Rules) (next memory : List ℕ) (n : ℕ) : Type 0 where
   pub holds : Holds plan (tasks_in r) memory n
 
 -- for every sound plan with these rules and this table: its nodes, or that they are too many; the bytes behind the store are as they were
-pub record Discovers (r : Rules) (next before after : List ℕ) (d : Discovered) : Type 0 where
-  pub answer : (P : Plan) → Planned P r next → size_of d ≡ cond (model.too_large P) none (some (length (model.nodes P)))
-  pub held : (n : ℕ) → d ≡ Nodes n → (P : Plan) → Planned P r next → Holds P (tasks_in r) after n
+pub record Discovers (r : Rules) (next before after : List ℕ) (d : rust.Option ℕ) : Type 0 where
+  pub answer : (P : Plan) → Planned P r next → option_of d ≡ cond (model.too_large P) none (some (length (model.nodes P)))
+  pub held : (n : ℕ) → d ≡ Some n → (P : Plan) → Planned P r next → Holds P (tasks_in r) after n
   pub only : Only 0 store_bytes before after

@@ -7,16 +7,15 @@ ghost use Rattle.model.specs.Graph.{edges_to, nodes};
 ghost use Rattle.model.specs.Limits.{max_states};
 ghost use Rattle.model.specs.Masks.{mask_count};
 ghost use Rattle.model.specs.Plan.{Plan};
-ghost use Rattle.policy.specs.View.{cell_count, Cells, tasks_in, Ruled};
-ghost use Rattle.graph.specs.Outcomes.{note_room, NotesFree};
+ghost use Rattle.policy.specs.View.{cell_count, Cells, tasks_in};
+ghost use Rattle.graph.specs.Outcomes.{NotesFree};
 ghost use Rattle.graph.specs.Label.{order_in, Readable};
 ghost use Rattle.graph.specs.View.{node_of, Planned, Planning};
-ghost use Rattle.store.specs.Store.{row_bytes, store_bytes};
+ghost use Rattle.store.specs.Store.{store_bytes};
 ghost use Rattle.discovery.specs.Discovery.{row_of, node_in, Stored, Adds, nodes_with, Holding, Explored, edges_by, edges_below, Known, Begun, Discovers};
 
+use machine::Machine;
 use node::Node;
-use policy::Rules;
-use store::Found;
 
 // Where the pattern and the state stand in a row, behind the cells.
 const TAKEN: usize = policy::CELLS;
@@ -32,26 +31,23 @@ pub struct Source {
 }
 
 // A node as a row.
-pub fn row_of(node: Node) -> [u8; store::ROW_BYTES]
-    requires { length node.cells ≡ cell_count }
-    ensures { result ≡ row_of node }
+pub fn row_of(node: &Node) -> [u8; store::ROW_BYTES]
+    ensures { result ≡ row_of node.now }
 {
-    let cells = node.cells;
     let mut row = [0u8; store::ROW_BYTES];
-    words::copy(&cells, 0, &mut row, 0, policy::CELLS);
+    words::copy(&node.cells, 0, &mut row, 0, policy::CELLS);
     words::write_u16(&mut row, TAKEN, node.taken);
     row[STATE] = node.state;
     row
 }
 
 // The node of a row.
-pub fn node_of(row: [u8; store::ROW_BYTES]) -> Node
-    requires { length row ≡ row_bytes }
-    ensures { result ≡ node_in row }
+pub fn node_of(row: &[u8; store::ROW_BYTES]) -> Node
+    ensures { result ≡ node_in row.now }
 {
     let mut cells = [0u8; policy::CELLS];
-    words::copy(&row, 0, &mut cells, 0, policy::CELLS);
-    let taken = words::read_u16(&row, TAKEN);
+    words::copy(row, 0, &mut cells, 0, policy::CELLS);
+    let taken = words::read_u16(row, TAKEN);
     Node {
         cells,
         taken,
@@ -59,23 +55,17 @@ pub fn node_of(row: [u8; store::ROW_BYTES]) -> Node
     }
 }
 
-// The number of nodes where there are too many.
-const TOO_MANY: usize = store::MAX_ROWS + 1;
-
-// A node joins the n in the store unless it is among them. The number of nodes then.
-fn add_node(m: &mut [u8], n: usize, node: Node) -> usize
-    requires cells_len { length node.cells ≡ cell_count }
-    requires stored { Stored m.old n }
+// A node joins the n in the store unless it is among them. The number of nodes then, if there are not too many.
+fn add_node(m: &mut [u8], n: usize, node: Node) -> Option<usize>
+    requires { Stored m.old n }
     ensures { Adds node.cells (λ ts. node_of ts node ∷ []) m.old n m.new result }
 {
-    let row = row_of(node);
-    match store::find_or_append(m, n, &row) {
-        Found::Full => TOO_MANY,
-        Found::At { index: _, count } => count,
-    }
+    let place = store::find_or_append(m, n, &row_of(&node))?;
+    Some(place.count)
 }
 
-// For each pattern in the notes a node with these cells and this state joins those in the store. The number of nodes then.
+// For each pattern in the notes a node with these cells and this state joins those in the store. The number of nodes then, if there are not
+// too many.
 fn add_outcomes(
     m: &mut [u8],
     n: usize,
@@ -83,161 +73,119 @@ fn add_outcomes(
     count: usize,
     cells: [u8; policy::CELLS],
     state: u8,
-) -> usize
-    requires { Stored m.old n × Readable notes.now count × (length cells ≡ cell_count) }
+) -> Option<usize>
+    requires { Stored m.old n × Readable notes.now count }
     ensures { Adds cells (nodes_with cells state (order_in notes.now count)) m.old n m.new result }
 {
     let mut known = n;
-    let mut k = 0;
-    while k < count {
+    for k in 0..count {
         let taken = graph::noted_pattern(notes, count, k);
-        known = add_node(
-            m,
-            known,
-            Node {
-                cells,
-                taken,
-                state,
-            },
-        );
-        if store::MAX_ROWS < known {
-            return known;
-        }
-        k += 1;
+        let node = Node {
+            cells,
+            taken,
+            state,
+        };
+        known = add_node(m, known, node)?;
     }
-    known
+    Some(known)
 }
 
-// A node, and the label of the edges that leave it.
-#[derive(Clone, Copy)]
-struct Departure {
-    node: Node,
-    label: u8,
-}
-
-// The nodes that a label leads to from a node, in this state, join those in the store. The number of nodes then.
+// The nodes that a label leads to from a node, in this state, join those in the store. The number of nodes then, if there are not too many.
 fn explore_label(
-    rules: Rules,
-    from: Departure,
+    machine: &Machine,
+    node: &Node,
+    label: u8,
     state: u8,
     notes: &mut [u32; graph::NOTE_ROOM],
     m: &mut [u8],
     n: usize,
-) -> usize
-    requires ruled { Ruled rules × Cells (tasks_in rules) cell_count from.node.cells × (from.node.taken < mask_count) }
-    requires holding { Holding (tasks_in rules) m.old n × (note_room ≤ length notes.old) }
-    ensures explored { Explored rules (λ P. edges_to P (node_of (tasks_in rules) from.node) from.label (some state)) m.old n m.new result }
+) -> Option<usize>
+    requires node { Cells (tasks_in machine.now.rules) cell_count node.now.cells × (node.now.taken < mask_count) }
+    requires holding { Holding (tasks_in machine.now.rules) m.old n }
+    ensures explored { Explored machine.now.rules (λ P. edges_to P (node_of (tasks_in machine.now.rules) node.now) label (some state)) m.old n m.new result }
     ensures notes_free { NotesFree notes.old notes.new }
 {
-    let node = from.node;
-    let noted = graph::reach(rules, node, from.label, graph::NO_PATTERN, notes);
-    let count = noted.count;
+    let noted = graph::reach(machine, node, label, None, notes);
     let done = noted.done;
     let cells = done.cells;
-    add_outcomes(m, n, notes, count, cells, state)
+    add_outcomes(m, n, notes, noted.count, cells, state)
 }
 
-// The nodes that a label leads to from a node, if it is admitted, join those in the store. The number of nodes then.
+// The nodes that a label leads to from a node, if it is admitted, join those in the store. The number of nodes then, if there are not too many.
 fn follow_label(
-    next: &[u8; plan::PAIRS],
-    rules: Rules,
-    from: Departure,
+    machine: &Machine,
+    node: &Node,
+    label: u8,
     notes: &mut [u32; graph::NOTE_ROOM],
     m: &mut [u8],
     n: usize,
-) -> usize
-    requires ruled { Ruled rules × Cells (tasks_in rules) cell_count from.node.cells × (from.node.state < max_states) × (from.node.taken < mask_count) }
-    requires holding { Holding (tasks_in rules) m.old n × (note_room ≤ length notes.old) }
-    ensures explored { Explored rules (edges_by next.now (node_of (tasks_in rules) from.node) from.label) m.old n m.new result }
+) -> Option<usize>
+    requires node { Cells (tasks_in machine.now.rules) cell_count node.now.cells × (node.now.state < max_states) × (node.now.taken < mask_count) }
+    requires holding { Holding (tasks_in machine.now.rules) m.old n }
+    ensures explored { Explored machine.now.rules (edges_by machine.now.next (node_of (tasks_in machine.now.rules) node.now) label) m.old n m.new result }
     ensures notes_free { NotesFree notes.old notes.new }
 {
-    let node = from.node;
-    let to = plan::next_state(next, node.state, from.label);
-    if to == 0 {
-        return n;
-    }
-    explore_label(rules, from, to - 1, notes, m, n)
+    let Some(to) = machine.next(node.state, label) else {
+        return Some(n);
+    };
+    explore_label(machine, node, label, to, notes, m, n)
 }
 
-// The nodes that edges lead to from a node, labels upward, join those in the store. The number of nodes then.
+// The nodes that edges lead to from a node, labels upward, join those in the store. The number of nodes then, if there are not too many.
 fn explore_node(
-    next: &[u8; plan::PAIRS],
-    rules: Rules,
-    node: Node,
+    machine: &Machine,
+    node: &Node,
     notes: &mut [u32; graph::NOTE_ROOM],
     m: &mut [u8],
     n: usize,
-) -> usize
-    requires ruled { Ruled rules × Cells (tasks_in rules) cell_count node.cells × (node.state < max_states) × (node.taken < mask_count) }
-    requires holding { Holding (tasks_in rules) m.old n × (note_room ≤ length notes.old) }
-    ensures explored { Explored rules (edges_below next.now (node_of (tasks_in rules) node) (2 ^ rules.count)) m.old n m.new result }
+) -> Option<usize>
+    requires node { Cells (tasks_in machine.now.rules) cell_count node.now.cells × (node.now.state < max_states) × (node.now.taken < mask_count) }
+    requires holding { Holding (tasks_in machine.now.rules) m.old n }
+    ensures explored { Explored machine.now.rules (edges_below machine.now.next (node_of (tasks_in machine.now.rules) node.now) (2 ^ machine.now.rules.tasks.count)) m.old n m.new result }
     ensures notes_free { NotesFree notes.old notes.new }
 {
-    let labels = 1u8 << rules.count;
+    let labels = machine.rules.tasks.labels();
     let mut known = n;
-    let mut label = 0;
-    while label < labels {
-        let from = Departure { node, label };
-        known = follow_label(next, rules, from, notes, m, known);
-        if store::MAX_ROWS < known {
-            return known;
-        }
-        label += 1;
+    for label in 0..labels as u8 {
+        known = follow_label(machine, node, label, notes, m, known)?;
     }
-    known
+    Some(known)
 }
 
-// Explores the nodes in the store by number, from the start node on. The number of nodes then.
+// Explores the nodes in the store by number, from the start node on. The number of nodes then, if there are not too many.
 fn explore_all(
-    next: &[u8; plan::PAIRS],
-    rules: Rules,
+    machine: &Machine,
     notes: &mut [u32; graph::NOTE_ROOM],
     m: &mut [u8],
     n: usize,
-) -> usize
-    requires { Ruled rules × Planning rules next.now × Begun rules m.old n × (note_room ≤ length notes.old) }
-    ensures known { (P : Plan) → Planned P rules next.now → Known (tasks_in rules) (nodes P) m.old m.new result }
+) -> Option<usize>
+    requires { Planning machine.now.rules machine.now.next × Begun machine.now.rules m.old n }
+    ensures known { (P : Plan) → Planned P machine.now.rules machine.now.next → Known (tasks_in machine.now.rules) (nodes P) m.old m.new result }
     ensures notes_free { NotesFree notes.old notes.new }
 {
     let mut known = n;
     let mut k = 0;
+    // Counted by hand: the queue grows while it is walked.
     while k < known {
-        let row = store::row(m, k);
-        let node = node_of(row);
-        known = explore_node(next, rules, node, notes, m, known);
-        if store::MAX_ROWS < known {
-            return known;
-        }
+        let node = node_of(&store::row(m, k));
+        known = explore_node(machine, &node, notes, m, known)?;
         k += 1;
     }
-    known
+    Some(known)
 }
 
-// So many nodes, or too many.
-#[derive(Clone, Copy)]
-pub enum Discovered {
-    TooMany,
-    Nodes(usize),
-}
-
-// Discovers the nodes of a sound plan with these rules and next states, into the store.
+// Discovers the nodes of a sound plan's machine, into the store: how many there are, if there are not too many.
 pub fn discover(
-    next: &[u8; plan::PAIRS],
-    rules: Rules,
+    machine: &Machine,
     notes: &mut [u32; graph::NOTE_ROOM],
     m: &mut [u8],
-) -> Discovered
-    requires ruled { Ruled rules × Planning rules next.now }
-    requires store_bytes_in_bounds { (store_bytes ≤ length m.old) × (note_room ≤ length notes.old) }
-    ensures discovers { Discovers rules next.now m.old m.new result }
+) -> Option<usize>
+    requires planning { Planning machine.now.rules machine.now.next }
+    requires room { store_bytes ≤ length m.old }
+    ensures discovers { Discovers machine.now.rules machine.now.next m.old m.new result }
     ensures notes_free { NotesFree notes.old notes.new }
 {
     store::clear_index(m);
-    let start = Node::start();
-    let first = add_node(m, 0, start);
-    let n = explore_all(next, rules, notes, m, first);
-    if store::MAX_ROWS < n {
-        return Discovered::TooMany;
-    }
-    Discovered::Nodes(n)
+    let first = add_node(m, 0, Node::start())?;
+    explore_all(machine, notes, m, first)
 }

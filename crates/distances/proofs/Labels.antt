@@ -6,6 +6,7 @@ use Prim.Native.Nat.{ℕ, ◌+◌, ◌^◌, ◌<◌}
 use native.Mathlib.Decide.{ℕ_discrete}
 use native.Mathlib.Nat.{not-suc-le-zero}
 use native.Mathlib.Omega.{arith}
+use Rattle.std.specs.Prelude.{Ok}
 use Rattle.model.specs.Plan.{Plan}
 use Rattle.theory.specs.Lightest.{max_weight}
 use Rattle.theory.specs.Search.{Progress}
@@ -13,10 +14,10 @@ use Rattle.theory.proofs.Progress.{progress-then, progress-tried, progress_alike
 use Rattle.theory.proofs.Searched.{told-still}
 use Rattle.policy.specs.View.{Ruled}
 use Rattle.policy.specs.declared.Rules.{Rules}
-use Rattle.distances.specs.declared.Prices.{Prices}
-use Rattle.links.specs.Links.{link_in, state_in, tried, marked, Puts}
+use Rattle.potentials.specs.declared.Claim.{Claim}
+use Rattle.links.specs.declared.Mark.TheVariants.{Tried}
+use Rattle.links.specs.Links.{link_in, state_in, marked, Puts}
 use Rattle.words.proofs.Free.{only_trans}
-use Rattle.distances.specs.declared.Tried.{Tried}
 use Rattle.distances.specs.Distances.{LinkOf, SpreadIn, SearchIn, Sought, Advance, DoneBy, RelaxesLabel, RelaxesNode}
 use Rattle.distances.proofs.Rows.{only_both}
 use Rattle.distances.proofs.Advances.{advance-none, advance-then, done-later, done-links}
@@ -28,48 +29,47 @@ or-false true = refl
 or-false false = refl
 
 -- the labels below one are done, and no circuit was found
-pub record DoneBelow (P : Plan) (prices : Prices) (u label : ℕ) (before after : List ℕ) (moved : Bool) : Type 0 where
-  pub advance : Advance P prices before after (record { moved = moved; steps = 0 })
-  pub done : (l : ℕ) → l < label → DoneBy P prices after u l
-  pub spread : SpreadIn P prices before after u
+pub record DoneBelow (P : Plan) (claim : Claim) (u label : ℕ) (before after : List ℕ) (moved : Bool) : Type 0 where
+  pub advance : Advance P claim before after (Ok moved)
+  pub done : (l : ℕ) → l < label → DoneBy P claim after u l
+  pub spread : SpreadIn P claim before after u
 
-module _ {P : Plan} {prices : Prices} {u : ℕ} where
-  pub below_none : {m : List ℕ} → SearchIn P prices m → DoneBelow P prices u 0 m m false
-  below_none s = record { advance = advance-none s; done = λ l h. absurd (not-suc-le-zero h); spread = spread_none (LinkOf P prices) }
+module _ {P : Plan} {claim : Claim} {u : ℕ} where
+  pub below_none : {m : List ℕ} → SearchIn P claim m → DoneBelow P claim u 0 m m false
+  below_none s = record { advance = advance-none s; done = λ l h. absurd (not-suc-le-zero h); spread = spread_none (LinkOf P claim) }
 
-  module _ {label : ℕ} {m m' m'' : List ℕ} {moved : Bool} (b : DoneBelow P prices u label m m' moved) where
+  module _ {label : ℕ} {m m' m'' : List ℕ} {moved : Bool} (b : DoneBelow P claim u label m m' moved) where
     -- one label more
-    pub below_more : {t : Tried} → RelaxesLabel P prices u label m' m'' t → t.steps ≡ 0 →
-        DoneBelow P prices u (label + 1) m m'' (moved || t.moved)
-    below_more {t} r none = record {
-      advance = advance-then b.advance refl r.advance none;
+    pub below_more : {moved' : Bool} → RelaxesLabel P claim u label m' m'' (Ok moved') → DoneBelow P claim u (label + 1) m m'' (moved || moved')
+    below_more r = record {
+      advance = advance-then b.advance r.advance;
       done = λ l h. by l h (ℕ_discrete l label);
-      spread = spread-then (LinkOf P prices) b.spread (r.spread none);
+      spread = spread-then (LinkOf P claim) b.spread r.spread;
     }
       where
-        by : (l : ℕ) → l < label + 1 → Dec (l ≡ label) → DoneBy P prices m'' u l
-        by l h (yes p) = subst (DoneBy P prices m'' u) (sym p) (r.done none)
-        by l h (no q) = done-later m' m'' u (r.advance.progress none).later (r.spread none).source (b.done l (omega arith))
+        by : (l : ℕ) → l < label + 1 → Dec (l ≡ label) → DoneBy P claim m'' u l
+        by l h (yes p) = subst (DoneBy P claim m'' u) (sym p) r.done
+        by l h (no q) = done-later m' m'' u r.advance.progress.later r.spread.source (b.done l (omega arith))
 
     -- all labels, and then u is marked
-    pub below_all : {r : Rules} {next : List ℕ} → Sought P r next m prices → Ruled r → label ≡ 2 ^ r.count → u < prices.n →
-        (state_in m).known u ≡ true → Puts u (marked tried (link_in m' u)) m' m'' → RelaxesNode P prices u m m'' (record { moved = moved; steps = 0 })
+    pub below_all : {r : Rules} {next : List ℕ} → Sought P r next m claim → Ruled r → label ≡ 2 ^ r.tasks.count → u < claim.n →
+        (state_in m).known u ≡ true → Puts u (marked Tried (link_in m' u)) m' m'' → RelaxesNode P claim u m m'' (Ok moved)
     below_all {r} s ruled all below known puts =
         let few = s.priced.holds.rows.index.few in
-        let so_far = b.advance.progress refl in
+        let so_far = b.advance.progress in
         let links = done-links m' u s.priced.planned ruled (λ l h. b.done l (subst (λ (n : ℕ). l < n) (sym all) h)) in
-        let mark = progress_alike (LinkOf P prices) (omega arith) (progress-tried (LinkOf P prices) u so_far.search links)
+        let mark = progress_alike (LinkOf P claim) (omega arith) (progress-tried (LinkOf P claim) u so_far.search links)
         (mark_alike puts few (so_far.later.known u below known)) in
         record {
           advance = record {
-            progress = λ e.
-                subst (Progress (LinkOf P prices) prices.n max_weight (state_in m) (state_in m'')) (or-false moved)
-                (progress-then (LinkOf P prices) so_far mark);
-            links = λ e. only_trans (b.advance.links refl) puts.only;
-            circuit = λ h. absurd (omega arith);
+            progress =
+                subst (Progress (LinkOf P claim) claim.n max_weight (state_in m) (state_in m'')) (or-false moved)
+                (progress-then (LinkOf P claim) so_far mark);
+            links = only_trans b.advance.links puts.only;
+            circuit = tt;
             only = only_trans b.advance.only (only_both puts.only);
           };
-          taken = λ e.
-              taken-waits s.priced m' below known so_far.later links b.spread ∙ sym (told-still prices.n (state_in m') (state_in m'') (mark.still refl));
-          tried = λ e f. mark_tried puts (omega arith);
+          taken =
+              taken-waits s.priced m' below known so_far.later links b.spread ∙ sym (told-still claim.n (state_in m') (state_in m'') (mark.still refl));
+          tried = λ f. mark_tried puts (omega arith);
         }

@@ -5,7 +5,6 @@ use mathlib.Core.List.{List}
 use Prim.Native.Nat.{ℕ, ◌<◌, ◌≤◌}
 use native.Mathlib.Decide.{ℕ_discrete}
 use native.Mathlib.Omega.{arith}
-use lib.Dec.{eqb, ltb}
 use lib.IntN.{ℤ}
 use Rattle.model.specs.Limits.{max_nodes}
 use Rattle.model.specs.Passes.{beginning}
@@ -15,18 +14,19 @@ use Rattle.theory.proofs.Search.{Alike, search-start}
 use Rattle.theory.proofs.Searched.{told-start}
 use Rattle.theory.proofs.Upward.{changed-at, changed_off}
 use Rattle.links.specs.declared.Link.{Link}
-use Rattle.links.specs.Links.{link_in, unknown, waiting, tried, state_in, marked, Puts, no_link, start_link, Begins}
+use Rattle.links.specs.declared.Mark.TheVariants.{Tried}
+use Rattle.links.specs.Links.{link_in, is_known, is_waiting, state_in, marked, Puts, no_link, start_link, Begins}
 
-module _ {m m' : List ℕ} {u : ℕ} (puts : Puts u (marked tried (link_in m u)) m m') where
-  at_mark : u < max_nodes → link_in m' u ≡ marked tried (link_in m u)
-  at_mark h = puts.links u h ∙ changed-at (link_in m) u (marked tried (link_in m u)) u refl
+module _ {m m' : List ℕ} {u : ℕ} (puts : Puts u (marked Tried (link_in m u)) m m') where
+  at_mark : u < max_nodes → link_in m' u ≡ marked Tried (link_in m u)
+  at_mark h = puts.links u h ∙ changed-at (link_in m) u (marked Tried (link_in m u)) u refl
 
   off_mark : (x : ℕ) → x < max_nodes → (x ≡ u → ⊥) → link_in m' x ≡ link_in m x
-  off_mark x h q = puts.links x h ∙ changed_off (link_in m) u (marked tried (link_in m u)) x q
+  off_mark x h q = puts.links x h ∙ changed_off (link_in m) u (marked Tried (link_in m u)) x q
 
   -- the node waits no longer
   pub mark_tried : u < max_nodes → (state_in m').waiting u ≡ false
-  mark_tried h = ap (λ (l : Link). eqb l.mark waiting) (at_mark h)
+  mark_tried h = ap (λ (l : Link). is_waiting l.mark) (at_mark h)
 
   module _ {n : ℕ} (few : n ≤ max_nodes) (known : (state_in m).known u ≡ true) where
     abbrev Same : ℕ → Type 0
@@ -40,16 +40,16 @@ module _ {m m' : List ℕ} {u : ℕ} (puts : Puts u (marked tried (link_in m u))
         by (yes p) =
             let e = at_mark (subst (λ (y : ℕ). y < max_nodes) p (omega arith)) in
             subst Same (sym p) (
-              known ∙ ap (λ (l : Link). ltb unknown l.mark) (sym e),
-              changed-at (state_in m).waiting u false u refl ∙ ap (λ (l : Link). eqb l.mark waiting) (sym e),
+              known ∙ ap (λ (l : Link). is_known l.mark) (sym e),
+              changed-at (state_in m).waiting u false u refl ∙ ap (λ (l : Link). is_waiting l.mark) (sym e),
               ap (λ (l : Link). l.distance) (sym e),
               ap (λ (l : Link). l.parent) (sym e),
               ap (λ (l : Link). l.label) (sym e),
             )
         by (no q) =
             let e = sym (off_mark x (omega arith) q) in (
-              ap (λ (l : Link). ltb unknown l.mark) e,
-              changed_off (state_in m).waiting u false x q ∙ ap (λ (l : Link). eqb l.mark waiting) e,
+              ap (λ (l : Link). is_known l.mark) e,
+              changed_off (state_in m).waiting u false x q ∙ ap (λ (l : Link). is_waiting l.mark) e,
               ap (λ (l : Link). l.distance) e,
               ap (λ (l : Link). l.parent) e,
               ap (λ (l : Link). l.label) e,
@@ -79,15 +79,15 @@ module _ {n : ℕ} {m m' : List ℕ} (few : n ≤ max_nodes) (b : Begins m m') w
       by (yes p) = p
       by (no q) =
           let e = b.links v (omega arith) ∙ changed_off (λ x. no_link) 0 start_link v q in
-          absurd (true≢false (sym k ∙ ap (λ (l : Link). ltb unknown l.mark) e))
+          absurd (true≢false (sym k ∙ ap (λ (l : Link). is_known l.mark) e))
 
   -- the search starts
   pub begin_search : (Between : ℕ → ℕ → ℕ → ℤ → Type 0) (c : ℕ) → Search Between n c (state_in m')
   begin_search Between c =
       search-start Between n c (state_in m')
-      (ap (λ (l : Link). ltb unknown l.mark) first) (ap (λ (l : Link). eqb l.mark waiting) first) (ap (λ (l : Link). l.distance) first) alone
+      (ap (λ (l : Link). is_known l.mark) first) (ap (λ (l : Link). is_waiting l.mark) first) (ap (λ (l : Link). l.distance) first) alone
 
   -- "from 0 at the start node, the others unknown"
   pub begin_found : 0 < n → distances_of n (state_in m') ≡ beginning n
   begin_found positive =
-      told-start n (state_in m') positive (ap (λ (l : Link). ltb unknown l.mark) first) (ap (λ (l : Link). l.distance) first) alone
+      told-start n (state_in m') positive (ap (λ (l : Link). is_known l.mark) first) (ap (λ (l : Link). l.distance) first) alone

@@ -7,15 +7,15 @@ use lib.ListN.{length}
 use native.Mathlib.Decide.{ℕ_discrete}
 use native.Mathlib.Nat.{zero-add, not-suc-le-zero}
 use native.Mathlib.Omega.{arith}
+use Rattle.std.specs.Prelude.{Ok}
 use Rattle.model.specs.Graph.{nodes}
 use Rattle.model.specs.Lists.{up_from}
 use Rattle.model.specs.Passes.{relax_node, pass}
 use Rattle.model.specs.Plan.{Plan}
 use Rattle.model.proofs.Lists.{up_from-append}
 use Rattle.model.proofs.Plan.{or_neither}
-use Rattle.distances.specs.declared.Prices.{Prices}
+use Rattle.potentials.specs.declared.Claim.{Claim}
 use Rattle.links.specs.Links.{state_in}
-use Rattle.distances.specs.declared.Tried.{Tried}
 use Rattle.distances.specs.Distances.{known_distances, SearchIn, Advance, RelaxesNode, Passes}
 use Rattle.distances.proofs.Advances.{advance-none, advance-then}
 
@@ -25,40 +25,40 @@ not-waiting true n = absurd (n refl)
 not-waiting false n = refl
 
 -- the nodes below one were tried, and no circuit was found: without a move none of them waits
-pub record TriedBelow (P : Plan) (prices : Prices) (node : ℕ) (before after : List ℕ) (moved : Bool) : Type 0 where
-  pub advance : Advance P prices before after (record { moved = moved; steps = 0 })
-  pub taken : foldl (relax_node P prices.p prices.q) (known_distances prices before) (up_from 0 node) ≡ known_distances prices after
+pub record TriedBelow (P : Plan) (claim : Claim) (node : ℕ) (before after : List ℕ) (moved : Bool) : Type 0 where
+  pub advance : Advance P claim before after (Ok moved)
+  pub taken : foldl (relax_node P claim.fraction.p claim.fraction.q) (known_distances claim before) (up_from 0 node) ≡ known_distances claim after
   pub tried : moved ≡ false → (x : ℕ) → x < node → (state_in after).waiting x ≡ false
 
-module _ {P : Plan} {prices : Prices} where
-  pub tried-none : {m : List ℕ} → SearchIn P prices m → TriedBelow P prices 0 m m false
+module _ {P : Plan} {claim : Claim} where
+  pub tried-none : {m : List ℕ} → SearchIn P claim m → TriedBelow P claim 0 m m false
   tried-none s = record { advance = advance-none s; taken = refl; tried = λ e x h. absurd (not-suc-le-zero h) }
 
   -- one node more
-  pub tried-more : {u : ℕ} {m m' m'' : List ℕ} {moved : Bool} {t : Tried} → u < prices.n → TriedBelow P prices u m m' moved →
-      RelaxesNode P prices u m' m'' t → t.steps ≡ 0 → TriedBelow P prices (u + 1) m m'' (moved || t.moved)
-  tried-more {u} {m} {m'} {m''} {moved} {t} below b r none = record {
-    advance = advance-then b.advance refl r.advance none;
+  pub tried-more : {u : ℕ} {m m' m'' : List ℕ} {moved moved' : Bool} → u < claim.n → TriedBelow P claim u m m' moved →
+      RelaxesNode P claim u m' m'' (Ok moved') → TriedBelow P claim (u + 1) m m'' (moved || moved')
+  tried-more {u} {m} {m'} {m''} {moved} {moved'} below b r = record {
+    advance = advance-then b.advance r.advance;
     taken =
-        ap (foldl (relax_node P prices.p prices.q) (known_distances prices m)) (up_from-append 0 u 1)
-        ∙ foldl-append (relax_node P prices.p prices.q) (known_distances prices m) (up_from 0 u) (up_from (0 + u) 1)
-        ∙ ap (λ ds. relax_node P prices.p prices.q ds (0 + u)) b.taken
-        ∙ ap (relax_node P prices.p prices.q (known_distances prices m')) (zero-add u) ∙ r.taken none;
-    tried = λ e x h. let still = or_neither moved t.moved e in by still.0 still.1 x h (ℕ_discrete x u);
+        ap (foldl (relax_node P claim.fraction.p claim.fraction.q) (known_distances claim m)) (up_from-append 0 u 1)
+        ∙ foldl-append (relax_node P claim.fraction.p claim.fraction.q) (known_distances claim m) (up_from 0 u) (up_from (0 + u) 1)
+        ∙ ap (λ ds. relax_node P claim.fraction.p claim.fraction.q ds (0 + u)) b.taken
+        ∙ ap (relax_node P claim.fraction.p claim.fraction.q (known_distances claim m')) (zero-add u) ∙ r.taken;
+    tried = λ e x h. let still = or_neither moved moved' e in by still.0 still.1 x h (ℕ_discrete x u);
   }
     where
-      by : moved ≡ false → t.moved ≡ false → (x : ℕ) → x < u + 1 → Dec (x ≡ u) → (state_in m'').waiting x ≡ false
-      by e f x h (yes p) = subst (λ (y : ℕ). (state_in m'').waiting y ≡ false) (sym p) (r.tried none f)
+      by : moved ≡ false → moved' ≡ false → (x : ℕ) → x < u + 1 → Dec (x ≡ u) → (state_in m'').waiting x ≡ false
+      by e f x h (yes p) = subst (λ (y : ℕ). (state_in m'').waiting y ≡ false) (sym p) (r.tried f)
       by e f x h (no q) =
           not-waiting ((state_in m'').waiting x)
-          (λ k. true≢false (sym ((r.advance.progress none).fresh f x (omega arith) k) ∙ b.tried e x (omega arith)))
+          (λ k. true≢false (sym (r.advance.progress.fresh f x (omega arith) k) ∙ b.tried e x (omega arith)))
 
   -- all nodes: a pass
-  pub tried-all : {u : ℕ} {m m' : List ℕ} {moved : Bool} → TriedBelow P prices u m m' moved → u ≡ prices.n → length (nodes P) ≡ prices.n →
-      Passes P prices m m' (record { moved = moved; steps = 0 })
+  pub tried-all : {u : ℕ} {m m' : List ℕ} {moved : Bool} → TriedBelow P claim u m m' moved → u ≡ claim.n → length (nodes P) ≡ claim.n →
+      Passes P claim m m' (Ok moved)
   unfolding pass
   tried-all {u} {m} b all count = record {
     advance = b.advance;
-    passed = λ e. ap (λ (n : ℕ). foldl (relax_node P prices.p prices.q) (known_distances prices m) (up_from 0 n)) (count ∙ sym all) ∙ b.taken;
-    quiet = λ e f x h k. b.tried f x (omega (arith, h, all));
+    passed = ap (λ (n : ℕ). foldl (relax_node P claim.fraction.p claim.fraction.q) (known_distances claim m) (up_from 0 n)) (count ∙ sym all) ∙ b.taken;
+    quiet = λ f x h k. b.tried f x (omega (arith, h, all));
   }

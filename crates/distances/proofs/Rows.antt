@@ -15,7 +15,7 @@ use Rattle.store.specs.Store.{row_bytes, max_rows, hashes, buckets_at, chain_at,
 use Rattle.store.proofs.Index.{last-same}
 use Rattle.store.proofs.Rows.{rows_same}
 use Rattle.discovery.specs.Discovery.{row_of, node_in, view_of, nodes_in, Holding, Holds}
-use Rattle.distances.specs.declared.Prices.{Prices}
+use Rattle.potentials.specs.declared.Claim.{Claim}
 use Rattle.potentials.specs.Potentials.{Numbered}
 use Rattle.links.specs.Links.{links_at, links_size, steps_size, step_place, taken_in, taken_of, first_steps}
 use Rattle.words.proofs.Free.{only_part, only_wider}
@@ -82,7 +82,7 @@ module _ {k : ℕ} {m m' : List ℕ} (o : Only links_at k m m') where
     nodes = ap (map (view_of ts)) (rows-kept n h.rows.index.few) ∙ h.nodes;
   }
 
-  pub priced-kept : {P : Plan} {r : Rules} {next : List ℕ} {prices : Prices} → Priced P r next m prices → Priced P r next m' prices
+  pub priced-kept : {P : Plan} {r : Rules} {next : List ℕ} {claim : Claim} → Priced P r next m claim → Priced P r next m' claim
   priced-kept p = record {
     planned = p.planned;
     holds = holds_kept p.holds;

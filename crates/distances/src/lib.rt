@@ -2,41 +2,18 @@
 // found that costs less than 0.
 #![tactic(auto)]
 
-ghost use Rattle.std.specs.Prelude.{◌≡◌, true, ◌||◌, ◌<◌, ◌≤◌, eqb, length};
+ghost use Rattle.std.specs.Prelude.{◌≡◌, true, not, ◌||◌, ◌<◌};
 ghost use Rattle.std.specs.Int.Signed.{lt_z};
 ghost use Rattle.model.specs.Plan.{Plan};
-ghost use Rattle.policy.specs.View.{Ruled};
-ghost use Rattle.graph.specs.Outcomes.{note_room, NotesFree};
 ghost use Rattle.potentials.specs.Potentials.{Numbered};
-ghost use Rattle.links.specs.Links.{unknown, state_in};
+ghost use Rattle.links.specs.Links.{is_known, is_waiting, state_in};
 ghost use Rattle.distances.specs.Distances.{Priced, Pricing, Sought, Seeking, Offer, Offered, Relaxes, high_of, Offers, Offering, RelaxesOne, RelaxesAll, RelaxesLabel, RelaxesNode, Passes, one_more, Settles};
 
 use discovery::Source;
-use links::{Link, Way};
+use links::{Link, Mark};
+use machine::Machine;
 use node::Node;
-use policy::Rules;
-
-// What the search charges for both gains, q for the policy's and p for the clairvoyant's, and the number of nodes.
-#[derive(Clone, Copy)]
-pub struct Prices {
-    pub p: u32,
-    pub q: u32,
-    pub n: usize,
-}
-
-// What trying edges did: whether a distance has moved, and the steps of a cycle that was found, 0 for none.
-#[derive(Clone, Copy)]
-pub struct Tried {
-    pub moved: bool,
-    pub steps: usize,
-}
-
-// What the passes came to: the steps of a cycle that was found, 0 for none, and the number of passes, the last included.
-#[derive(Clone, Copy)]
-pub struct Settled {
-    pub steps: usize,
-    pub passes: usize,
-}
+use potentials::Claim;
 
 // Where a label leads from a numbered node: so many noted patterns, each with the policy's cells and gain and the automaton's state.
 #[derive(Clone, Copy)]
@@ -51,198 +28,160 @@ struct Outcomes {
 
 // Whether a distance is smaller than that of a link, or the first.
 fn is_shorter(link: Link, z: i64) -> bool
-    ensures { result ≡ (eqb link.mark unknown || lt_z z link.distance) }
+    ensures { result ≡ (not (is_known link.mark) || lt_z z link.distance) }
 {
-    if link.mark == links::UNKNOWN {
-        return true;
-    }
-    z < link.distance
+    link.mark == Mark::Unknown || z < link.distance
 }
 
+// Whether the edges of a node are still to be tried, by its mark.
+fn waits(mark: Mark) -> bool
+    ensures { result ≡ is_waiting mark }
+{
+    mark == Mark::Waiting
+}
+
+// What trying edges answers, here and below: whether a distance has moved, or the steps of a cycle that was found.
+
 // Tries the edge of a label from u to v, by which v is at the distance z.
-fn relax(m: &mut [u8], u: usize, label: u8, v: usize, z: i64) -> Tried
+fn relax(m: &mut [u8], u: usize, label: u8, v: usize, z: i64) -> Result<bool, usize>
     requires { Offered m.old u label v z }
-    ensures { (P : Plan) (prices : Prices) → Offer P prices m.old u label v z → Relaxes P prices u v z m.old m.new result }
+    ensures { (P : Plan) (claim : Claim) → Offer P claim m.old u label v z → Relaxes P claim u v z m.old m.new result }
 {
     if !is_shorter(links::link_to(m, v), z) {
-        return Tried {
-            moved: false,
-            steps: 0,
-        };
+        return Ok(false);
     }
-    let Way::Above(j) = links::way_up(m, u, v) else {
-        links::put_link(
-            m,
-            v,
-            Link {
-                distance: z,
-                parent: u,
-                label,
-                mark: links::WAITING,
-            },
-        );
-        return Tried {
-            moved: true,
-            steps: 0,
-        };
-    };
-    links::put_cycle(m, u, label, j);
-    Tried {
-        moved: false,
-        steps: j + 1,
+    if let Some(j) = links::way_up(m, u, v) {
+        links::put_cycle(m, u, label, j);
+        return Err(j + 1);
     }
+    links::put_link(
+        m,
+        v,
+        Link {
+            distance: z,
+            parent: u,
+            label,
+            mark: Mark::Waiting,
+        },
+    );
+    Ok(true)
 }
 
 // Tries the k-th noted outcome of a label: `high` is the distance of the node it leaves, with the policy's weight.
 fn relax_outcome(
-    prices: Prices,
+    claim: Claim,
     out: Outcomes,
     high: i64,
     k: usize,
     notes: &[u32; graph::NOTE_ROOM],
     m: &mut [u8],
-) -> Tried
-    requires { Offering prices m.old notes.now out × (k < out.count) × (high ≡ high_of prices m.old out) }
-    ensures { (P : Plan) → Offers P prices m.old notes.now out → RelaxesOne P prices out k notes.now m.old m.new result }
+) -> Result<bool, usize>
+    requires { Offering claim m.old notes.now out × (k < out.count) × (high ≡ high_of claim m.old out) }
+    ensures { (P : Plan) → Offers P claim m.old notes.now out → RelaxesOne P claim out k notes.now m.old m.new result }
 {
     let taken = graph::noted_pattern(notes, out.count, k);
     let gain = graph::best_score(notes, taken as usize) - 1;
-    let z = high - potentials::times(prices.p, gain);
+    let z = high - potentials::times(claim.fraction.p, gain);
     let cells = out.cells;
-    let row = discovery::row_of(Node {
+    let node = Node {
         cells,
         taken,
         state: out.state,
-    });
-    let v = store::find(m, prices.n, &row);
+    };
+    let v = store::find(m, claim.n, &discovery::row_of(&node)).unwrap();
     relax(m, out.number, out.label, v, z)
 }
 
 // Tries the noted outcomes of a label.
 fn relax_outcomes(
-    prices: Prices,
-    out: Outcomes,
+    claim: Claim,
+    out: &Outcomes,
     notes: &[u32; graph::NOTE_ROOM],
     m: &mut [u8],
-) -> Tried
-    requires { Offering prices m.old notes.now out }
-    ensures { (P : Plan) → Offers P prices m.old notes.now out → RelaxesAll P prices out notes.now m.old m.new result }
+) -> Result<bool, usize>
+    requires { Offering claim m.old notes.now out.now }
+    ensures { (P : Plan) → Offers P claim m.old notes.now out.now → RelaxesAll P claim out.now notes.now m.old m.new result }
 {
     let from = links::link_to(m, out.number);
-    let high = from.distance + potentials::times(prices.q, out.kept);
-    let count = out.count;
+    let high = from.distance + potentials::times(claim.fraction.q, out.kept);
     let mut moved = false;
-    let mut k = 0;
-    while k < count {
-        let tried = relax_outcome(prices, out, high, k, notes, m);
-        if tried.steps != 0 {
-            return tried;
-        }
-        moved = moved | tried.moved;
-        k += 1;
+    for k in 0..out.count {
+        moved |= relax_outcome(claim, *out, high, k, notes, m)?;
     }
-    Tried { moved, steps: 0 }
+    Ok(moved)
 }
 
 // Tries the edges of a label from the source.
 fn relax_label(
-    prices: Prices,
-    next: &[u8; plan::PAIRS],
-    rules: Rules,
-    source: Source,
+    claim: Claim,
+    machine: &Machine,
+    source: &Source,
     notes: &mut [u32; graph::NOTE_ROOM],
     m: &mut [u8],
-) -> Tried
-    requires { Ruled rules × Seeking rules next.now m.old prices × Numbered m.old prices.n source.number source.node × ((state_in m.old).known source.number ≡ true) × (note_room ≤ length notes.old) }
-    ensures relaxes_label { (P : Plan) → Sought P rules next.now m.old prices → RelaxesLabel P prices source.number source.label m.old m.new result }
-    ensures notes_free { NotesFree notes.old notes.new }
+) -> Result<bool, usize>
+    requires { Seeking machine.now.rules machine.now.next m.old claim × Numbered m.old claim.n source.now.number source.now.node × ((state_in m.old).known source.now.number ≡ true) }
+    ensures { (P : Plan) → Sought P machine.now.rules machine.now.next m.old claim → RelaxesLabel P claim source.now.number source.now.label m.old m.new result }
 {
-    let node = source.node;
-    let label = source.label;
-    let to = plan::next_state(next, node.state, label);
-    if to == 0 {
-        return Tried {
-            moved: false,
-            steps: 0,
-        };
-    }
-    let noted = graph::reach(rules, node, label, graph::NO_PATTERN, notes);
+    let Some(state) = machine.next(source.node.state, source.label) else {
+        return Ok(false);
+    };
+    let noted = graph::reach(machine, &source.node, source.label, None, notes);
     let done = noted.done;
     let cells = done.cells;
     let out = Outcomes {
         number: source.number,
-        label,
+        label: source.label,
         count: noted.count,
         cells,
-        state: to - 1,
-        kept: done.gain as u32,
+        state,
+        kept: u32::from(done.gain),
     };
-    relax_outcomes(prices, out, notes, m)
+    relax_outcomes(claim, &out, notes, m)
 }
 
 // Tries the edges of the node numbered u, labels upward, if it waits.
 fn relax_node(
-    prices: Prices,
-    next: &[u8; plan::PAIRS],
-    rules: Rules,
+    claim: Claim,
+    machine: &Machine,
     u: usize,
     notes: &mut [u32; graph::NOTE_ROOM],
     m: &mut [u8],
-) -> Tried
-    requires { Ruled rules × Seeking rules next.now m.old prices × (u < prices.n) × (note_room ≤ length notes.old) }
-    ensures relaxes_node { (P : Plan) → Sought P rules next.now m.old prices → RelaxesNode P prices u m.old m.new result }
-    ensures notes_free { NotesFree notes.old notes.new }
+) -> Result<bool, usize>
+    requires { Seeking machine.now.rules machine.now.next m.old claim × (u < claim.n) }
+    ensures { (P : Plan) → Sought P machine.now.rules machine.now.next m.old claim → RelaxesNode P claim u m.old m.new result }
 {
-    let mut moved = false;
-    let link = links::link_to(m, u);
-    if link.mark != links::WAITING {
-        return Tried { moved, steps: 0 };
+    if !waits(links::link_to(m, u).mark) {
+        return Ok(false);
     }
-    let row = store::row(m, u);
-    let node = discovery::node_of(row);
-    let labels = 1u8 << rules.count;
-    let mut label = 0;
-    while label < labels {
+    let node = discovery::node_of(&store::row(m, u));
+    let mut moved = false;
+    for label in 0..machine.rules.tasks.labels() as u8 {
         let source = Source {
             number: u,
             node,
             label,
         };
-        let tried = relax_label(prices, next, rules, source, notes, m);
-        if tried.steps != 0 {
-            return tried;
-        }
-        moved = moved | tried.moved;
-        label += 1;
+        moved |= relax_label(claim, machine, &source, notes, m)?;
     }
-    links::set_mark(m, u, links::TRIED);
-    Tried { moved, steps: 0 }
+    links::set_mark(m, u, Mark::Tried);
+    Ok(moved)
 }
 
 // Tries the edges of every node that waits, nodes by number.
 fn pass(
-    prices: Prices,
-    next: &[u8; plan::PAIRS],
-    rules: Rules,
+    claim: Claim,
+    machine: &Machine,
     notes: &mut [u32; graph::NOTE_ROOM],
     m: &mut [u8],
-) -> Tried
-    requires { Ruled rules × Seeking rules next.now m.old prices × (note_room ≤ length notes.old) }
-    ensures passes { (P : Plan) → Sought P rules next.now m.old prices → Passes P prices m.old m.new result }
-    ensures notes_free { NotesFree notes.old notes.new }
+) -> Result<bool, usize>
+    requires { Seeking machine.now.rules machine.now.next m.old claim }
+    ensures { (P : Plan) → Sought P machine.now.rules machine.now.next m.old claim → Passes P claim m.old m.new result }
 {
-    let n = prices.n;
     let mut moved = false;
-    let mut u = 0;
-    while u < n {
-        let tried = relax_node(prices, next, rules, u, notes, m);
-        if tried.steps != 0 {
-            return tried;
-        }
-        moved = moved | tried.moved;
-        u += 1;
+    for u in 0..claim.n {
+        moved |= relax_node(claim, machine, u, notes, m)?;
     }
-    Tried { moved, steps: 0 }
+    Ok(moved)
 }
 
 // One pass more, counted as far as a plan may have nodes: a search that comes to rest has no more passes than nodes.
@@ -250,32 +189,27 @@ fn counted(passes: usize) -> usize
     ensures { result ≡ one_more passes }
 {
     if passes < Node::MAX_NODES {
-        return passes + 1;
+        passes + 1
+    } else {
+        passes
     }
-    passes
 }
 
-// Finds the distances of all nodes, and gives the number of passes; or a cycle that costs less than 0.
+// Finds the distances of all nodes, and gives the number of passes; or the steps of a cycle that costs less than 0.
 pub fn settle(
-    prices: Prices,
-    next: &[u8; plan::PAIRS],
-    rules: Rules,
+    claim: Claim,
+    machine: &Machine,
     notes: &mut [u32; graph::NOTE_ROOM],
     m: &mut [u8],
-) -> Settled
-    requires { Ruled rules × Pricing rules next.now m.old prices × (note_room ≤ length notes.old) }
-    ensures settles { (P : Plan) → Priced P rules next.now m.old prices → Settles P prices m.old m.new result }
-    ensures notes_free { NotesFree notes.old notes.new }
+) -> Result<usize, usize>
+    requires { Pricing machine.now.rules machine.now.next m.old claim }
+    ensures { (P : Plan) → Priced P machine.now.rules machine.now.next m.old claim → Settles P claim m.old m.new result }
 {
     links::begin(m);
-    let mut moved = true;
-    let mut steps = 0;
-    let mut passes = 0;
-    while moved {
-        let tried = pass(prices, next, rules, notes, m);
-        moved = tried.moved;
-        steps = tried.steps;
+    let mut passes = 1;
+    // No `for`: passes go on until none moves a distance.
+    while pass(claim, machine, notes, m)? {
         passes = counted(passes);
     }
-    Settled { steps, passes }
+    Ok(passes)
 }

@@ -1,7 +1,7 @@
 -- What is written for a certificate that is widened.
 use Rattle.std.specs.Prelude.{Bool, List, ℕ}
 use Rattle.records.specs.Begins.{Begins}
-use Rattle.refusals.specs.declared.Answer.{Answer}
+use Rattle.refusals.specs.Told.{Answer}
 use Rattle.widen.specs.Promise.{Widens}
 
 -- the widen call was lent this output and left it so, and r says whether it then begins with these bytes

@@ -4,32 +4,51 @@
 pub mod conversions; // conversions.rt: a plan of either edition, and an output
 pub mod widenings; // widenings.rt: a certificate of the first edition, and the output lent to the widen call
 
-ghost use Rattle.std.specs.Prelude.{◌≡◌};
+ghost use Rattle.std.specs.Prelude.{◌≡◌, true, false, MatchResult};
 ghost use Rattle.edition_cases.specs.Kinds.{is_edition_kind};
 
-const FORTH: u8 = 9;
+use std::fs::File;
 
-const BACK: u8 = 10;
+// The kinds by their numbers.
+#[derive(Clone, Copy, Debug, PartialEq, Eq)]
+enum Kind {
+    Forth = 9,
+    Back = 10,
+    Widen = 11,
+}
 
-const WIDEN: u8 = 11;
+impl TryFrom<u8> for Kind {
+    type Error = ();
+
+    fn try_from(kind: u8) -> Result<Kind, ()>
+        ensures { MatchResult result (λ k. is_edition_kind kind ≡ true) (λ e. is_edition_kind kind ≡ false) }
+    {
+        match kind {
+            9 => Ok(Kind::Forth),
+            10 => Ok(Kind::Back),
+            11 => Ok(Kind::Widen),
+            _ => Err(()),
+        }
+    }
+}
 
 // Runs the next case of the file if its kind is one of these, and answers whether it is.
-pub fn run(kind: u8, file: i32) -> bool
+pub fn run(kind: u8, file: &mut File) -> bool
     ensures { result ≡ is_edition_kind kind }
 {
+    let Ok(kind) = Kind::try_from(kind) else {
+        return false;
+    };
     match kind {
-        FORTH => {
+        Kind::Forth => {
             conversions::forth_case(file);
-            true
         }
-        BACK => {
+        Kind::Back => {
             conversions::back_case(file);
-            true
         }
-        WIDEN => {
+        Kind::Widen => {
             widenings::widen_case(file);
-            true
         }
-        _ => false,
     }
+    true
 }

@@ -3,6 +3,8 @@
 ghost use Rattle.std.specs.Prelude.{List, ℕ};
 ghost use Rattle.edition_cases.specs.Widened.{WidensAs};
 
+use std::fs::File;
+
 // Writes what the widen call tells and whether its output begins with these bytes, and answers the latter.
 fn write_widened(certificate: &[u8], bytes: &[u8], out: &mut [u8]) -> bool
     ensures { WidensAs certificate.now bytes.now out.old out.new result }
@@ -13,7 +15,7 @@ fn write_widened(certificate: &[u8], bytes: &[u8], out: &mut [u8]) -> bool
 }
 
 // Reads a certificate, bytes and a number of eight bytes, and writes both lines.
-pub fn widen_case(file: i32) -> bool
+pub fn widen_case(file: &mut File) -> bool
     ensures { (certificate bytes out out' : List ℕ) × WidensAs certificate bytes out out' result }
 {
     let mut certificate = io::large_buffer();

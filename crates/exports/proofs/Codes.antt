@@ -5,24 +5,23 @@ use mathlib.Core.List.{List}
 use Prim.Native.Nat.{ℕ, ◌+◌, ◌<◌}
 use native.Mathlib.Omega.{arith}
 use lib.ListN.{length, take}
+use Rattle.std.specs.Prelude.{Ok, Err}
 use Rattle.model.specs.Calls.{Writing, refuses, writes}
 use Rattle.model.specs.Convert.{Converted}
 use Rattle.model.specs.Edition.{Edition}
 use Rattle.model.specs.Gap.{Group, HasGap}
 use Rattle.model.specs.Plan.{Plan}
 use Rattle.refusals.specs.Numbers.{refusal_number}
-use Rattle.refusals.specs.declared.Answer.{Answer}
-use Rattle.refusals.specs.declared.Answer.TheVariants.{Refused, Written}
-use Rattle.refusals.specs.Told.{result_by, Told}
+use Rattle.refusals.specs.Told.{Answer, result_by, Told}
 use Rattle.refusals.proofs.Told.{told-bytes, told-due}
 use Rattle.convert.specs.Promise.{Converts}
 use Rattle.gap.specs.Promise.{Rewrites}
 use Rattle.exports.specs.Codes.{code_of, TellsAs, ConvertsAs, RewritesAs}
 
 -- what holds of the bytes that were written holds by the number, where that is below a refusal's
-pub by_number : (F : ℕ → Type 0) (a : Answer) {r : ℕ} → r ≡ code_of (result_by a) → ((n : ℕ) → a ≡ Written n → F n) → r < 65536 → F r
-by_number F (Refused f) e w small = absurd (omega (arith, e))
-by_number F (Written n) e w small = subst F (sym e) (w n refl)
+pub by_number : (F : ℕ → Type 0) (a : Answer) {r : ℕ} → r ≡ code_of (result_by a) → ((n : ℕ) → a ≡ Ok n → F n) → r < 65536 → F r
+by_number F (Err f) e w small = absurd (omega (arith, e))
+by_number F (Ok n) e w small = subst F (sym e) (w n refl)
 
 module _ {A : Type 0} {spell : A → List ℕ} {due : Writing A} {out out' : List ℕ} {r : ℕ} where
   pub tells_as : {a : Answer} → Told spell due out out' a → r ≡ code_of (result_by a) → TellsAs spell due out out' r
@@ -31,10 +30,10 @@ module _ {A : Type 0} {spell : A → List ℕ} {due : Writing A} {out out' : Lis
   -- a refusal that is told by its number was due, since all that is written is shorter
   pub due_by_number : (a : Answer) (k : ℕ) → ((x : A) → due ≡ writes x → length (spell x) < 65536) → Told spell due out out' a → r ≡ code_of (result_by a) →
       r ≡ 65536 + k → due ≡ refuses k
-  due_by_number (Refused f) k short t e h =
+  due_by_number (Err f) k short t e h =
       let same : refusal_number f ≡ k = omega (arith, e, h) in
       told-due spell due out out' f t ∙ ap refuses same
-  due_by_number (Written n) k short t e h =
+  due_by_number (Ok n) k short t e h =
       let b = told-bytes spell due out out' n t in
       absurd (omega (arith, e, h, b.size, short b.what b.is_due))
 

@@ -1,5 +1,5 @@
 -- An answer as one number, and the numbers beside it.
-use Rattle.std.specs.Prelude.{◌≡◌, List, [], ◌∷◌, ◌↔◌, ℕ, ◌+◌, ◌≤◌, ◌<◌, length, take}
+use Rattle.std.specs.Prelude.{◌≡◌, List, [], ◌∷◌, ◌↔◌, ℕ, ◌+◌, ◌≤◌, ◌<◌, length, take, None, Some, Ok, Err}
 use Rattle.std.proofs.Math.Option.{some}
 use Rattle.model.specs.Certificate.{Certificate, certificate_bytes, read_certificate_in}
 use Rattle.model.specs.Check.{CheckAnswer}
@@ -13,12 +13,10 @@ use Rattle.model.specs.Plan.{Plan, sound, read_plan, read_plan_in, IsSoundIn}
 use Rattle.model.specs.PlanBytes.{plan_bytes_in, plan_bytes}
 use Rattle.model.specs.Refusals.{too_many_pairs, not_in_first}
 use Rattle.model.specs.Trace.{trace, trace_bytes}
-use Rattle.solver.specs.declared.Answer as solver
-use Rattle.solver.specs.declared.Answer.TheVariants as solved
+use Rattle.solver.specs.Promise as solver
 use Rattle.refusals.specs.Numbers.{refusal_number}
 use Rattle.solver.specs.Promise.{Solves}
-use Rattle.cap.specs.declared.Answer as caps
-use Rattle.cap.specs.declared.Answer.TheVariants as capped
+use Rattle.cap.specs.View as caps
 use Rattle.cap.specs.View.{Checks}
 
 -- the bytes written, or 65,536 and the number of the refusal
@@ -38,13 +36,13 @@ numbers_after (CheckAnswer.share p q n k) before = p ∷ q ∷ n ∷ k ∷ []
 
 -- the bytes written, or 65,536 and the number of the refusal
 abbrev pub solve_code : solver.Answer → ℕ
-solve_code (solved.Refused r) = 65536 + refusal_number r
-solve_code (solved.Written n k) = n
+solve_code (Err r) = 65536 + refusal_number r
+solve_code (Ok s) = s.bytes
 
 -- the number of passes, or what was there
 abbrev pub passes_after : solver.Answer → List ℕ → List ℕ
-passes_after (solved.Refused r) before = before
-passes_after (solved.Written n k) before = k ∷ []
+passes_after (Err r) before = before
+passes_after (Ok s) before = s.passes ∷ []
 
 -- the numbers of an answer that keeps the solver's promise
 pub record SolvesAs (plan work work' out out' passes passes' : List ℕ) (r : ℕ) : Type 0 where
@@ -98,15 +96,15 @@ pub record WidenedAs (certificate out out' : List ℕ) (r : ℕ) : Type 0 where
 
 -- 0 where the log keeps the cap, 1 where a slot exceeds it, or 65,536 and the number of the refusal
 abbrev pub cap_code : caps.Answer → ℕ
-cap_code (capped.Refused r) = 65536 + refusal_number r
-cap_code (capped.Over t) = 1
-cap_code capped.Kept = 0
+cap_code (Err r) = 65536 + refusal_number r
+cap_code (Ok (Some t)) = 1
+cap_code (Ok None) = 0
 
 -- that slot, or what was there
 abbrev pub slot_after : caps.Answer → List ℕ → List ℕ
-slot_after (capped.Refused r) before = before
-slot_after (capped.Over t) before = t ∷ []
-slot_after capped.Kept before = before
+slot_after (Err r) before = before
+slot_after (Ok (Some t)) before = t ∷ []
+slot_after (Ok None) before = before
 
 -- the numbers of an answer that keeps the cap call's promise
 pub record ChecksAs (plan labels : List ℕ) (slots work : ℕ) (slot slot' : List ℕ) (r : ℕ) : Type 0 where

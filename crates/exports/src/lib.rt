@@ -1,25 +1,33 @@
 // The calls for programs in C and Rust: numbers, byte slices and arrays of numbers alone.
 #![tactic(auto)]
 
-ghost use Rattle.std.specs.Prelude.{◌≡◌, leb, length};
+ghost use Rattle.std.specs.Prelude.{◌≡◌, ◌+◌, leb, length};
 ghost use Rattle.model.specs.Bytes.{work_after};
 ghost use Rattle.model.specs.Check.{check};
 ghost use Rattle.model.specs.Gap.{one_task, task_set};
 ghost use Rattle.model.specs.Limits.{work_room};
 ghost use Rattle.exports.specs.Codes.{code_of, check_code, numbers_after, TracesAs, SolvesAs, RewritesAs, CombinesAs, ForthAs, BackAs, WidenedAs, ChecksAs};
 ghost use Rattle.controller.specs.View.{Replays};
+ghost use Rattle.refusals.specs.Numbers.{refusal_number};
 ghost use Rattle.refusals.specs.Told.{result_by};
 
 use gap::Group;
-use refusals::Answer;
+use refusals::Refusal;
+
+// 65,536 and the number of a refusal.
+fn refusal_code(r: Refusal) -> u64
+    ensures { result ≡ 65536 + refusal_number r }
+{
+    65536 + r.number()
+}
 
 // The number of bytes written, or 65,536 and the number of the refusal.
-fn code(answer: Answer) -> u64
+fn code(answer: Result<usize, Refusal>) -> u64
     ensures { result ≡ code_of (result_by answer) }
 {
     match answer {
-        Answer::Refused(r) => 65536 + r.number(),
-        Answer::Written(n) => n as u64,
+        Ok(n) => n as u64,
+        Err(r) => refusal_code(r),
     }
 }
 
@@ -43,13 +51,14 @@ pub extern "C" fn jovnetal_check(
     ensures numbers_after { numbers.new ≡ numbers_after (check plan.now certificate.now (length work.old)) numbers.old }
     ensures work_after { work.new ≡ work_after (leb work_room (length work.old)) work.old }
 {
-    let answer = checker::check(plan, certificate, work);
-    match answer {
-        checker::Answer::Refused(r) => r.number(),
-        checker::Answer::Share { p, q, n, k } => {
-            *numbers = [p as u64, q as u64, n as u64, k];
+    match checker::check(plan, certificate, work) {
+        Ok(share) => {
+            let p = share.fraction.p;
+            let q = share.fraction.q;
+            *numbers = [u64::from(p), u64::from(q), share.n as u64, share.k];
             0
         }
+        Err(r) => r.number(),
     }
 }
 
@@ -64,16 +73,12 @@ pub extern "C" fn jovnetal_solve(
 ) -> u64
     ensures { SolvesAs plan.now work.old work.new out.old out.new passes.old passes.new result }
 {
-    let answer = solver::solve(plan, work, out);
-    match answer {
-        solver::Answer::Refused(r) => 65536 + r.number(),
-        solver::Answer::Written {
-            bytes: n,
-            passes: k,
-        } => {
-            *passes = [k as u64];
-            n as u64
+    match solver::solve(plan, work, out) {
+        Ok(solved) => {
+            *passes = [solved.passes as u64];
+            solved.bytes as u64
         }
+        Err(r) => refusal_code(r),
     }
 }
 
@@ -131,7 +136,10 @@ pub extern "C" fn jovnetal_widen(certificate: &[u8], out: &mut [u8]) -> u64
 pub extern "C" fn jovnetal_block(plan: &[u8], writes: &[u8], registers: &mut [u8; 16]) -> u64
     ensures { Replays plan.now writes.now registers.old registers.new result }
 {
-    controller::replay(plan, writes, registers)
+    match controller::replay(plan, writes, registers) {
+        Ok(()) => 0,
+        Err(r) => r.number(),
+    }
 }
 
 // The cap call: 0 where the log keeps the cap, 1 where it does not, with the first slot that exceeds it; or 65,536 and the number of the
@@ -146,13 +154,12 @@ pub extern "C" fn jovnetal_cap(
 ) -> u64
     ensures { ChecksAs plan.now labels.now slots work slot.old slot.new result }
 {
-    let answer = cap::check(plan, labels, slots, work);
-    match answer {
-        cap::Answer::Refused(r) => 65536 + r.number(),
-        cap::Answer::Over(t) => {
+    match cap::check(plan, labels, slots, work) {
+        Ok(None) => 0,
+        Ok(Some(t)) => {
             *slot = [t];
             1
         }
-        cap::Answer::Kept => 0,
+        Err(r) => refusal_code(r),
     }
 }

@@ -21,12 +21,11 @@ use Rattle.model.proofs.Plan.{between-below, between-above, between-inside}
 use Rattle.theory.proofs.Gaps.{group_gap_has}
 use Rattle.theory.proofs.Groups.{same-tasks}
 use Rattle.plan.specs.declared.Plan.{Plan}
-use Rattle.plan.specs.View.{plan_of, Sized}
+use Rattle.plan.specs.View.{plan_of}
 use Rattle.plan.proofs.View.{tasks-size}
 use Rattle.refusals.specs.declared.Refusal.TheVariants.{BadGap}
-use Rattle.refusals.specs.declared.Answer.{Answer}
-use Rattle.refusals.specs.declared.Answer.TheVariants.{Refused, Written}
-use Rattle.refusals.specs.Told.{Told}
+use Rattle.std.specs.Prelude.{Ok, Err}
+use Rattle.refusals.specs.Told.{Answer, Told}
 use Rattle.refusals.proofs.Told.{told_as, told_by, told-refusal, told-written, told-bytes}
 use Rattle.gap.specs.Promise.{Rewrites}
 
@@ -44,35 +43,35 @@ module _ (P : model.Plan) (group : Group) (g : ℕ) where
   gap_due : between 1 g max_gap ≡ true → known group (length P.tasks) ≡ true → gap_in P group g ≡ writes (gap_plan P (in_group group) g)
   gap_due e f = λ i. cond (e i && f i) (writes (gap_plan P (in_group group) g)) (refuses bad_gap)
 
-module _ (p : Plan) (z : Sized p) (set slots : ℕ) (before : List ℕ) where
+module _ (p : Plan) (set slots : ℕ) (before : List ℕ) where
   abbrev due : Writing model.Plan
   due = gap_in (plan_of p) (task_set set) slots
 
-  refusal : due ≡ refuses bad_gap → Told plan_bytes due before before (Refused BadGap)
+  refusal : due ≡ refuses bad_gap → Told plan_bytes due before before (Err BadGap)
   refusal e = told-refusal plan_bytes due before BadGap e
 
-  pub no_gap : slots < 1 → Told plan_bytes due before before (Refused BadGap)
+  pub no_gap : slots < 1 → Told plan_bytes due before before (Err BadGap)
   no_gap h = refusal (bad_gap_lem (plan_of p) (task_set set) slots (between-below 1 slots max_gap h))
 
-  pub long_gap : max_gap < slots → Told plan_bytes due before before (Refused BadGap)
+  pub long_gap : max_gap < slots → Told plan_bytes due before before (Err BadGap)
   long_gap h = refusal (bad_gap_lem (plan_of p) (task_set set) slots (between-above 1 slots max_gap h))
 
   -- whether the set has a task, and no other than the plan's
-  known_by : (x y : Bool) → leb 1 set ≡ x → ltb set (2 ^ p.count) ≡ y → known (task_set set) (length (plan_of p).tasks) ≡ (x && y)
-  known_by x y e f = (λ i. e i && ltb set (2 ^ tasks-size p z i)) ∙ ap (λ (b : Bool). x && b) f
+  known_by : (x y : Bool) → leb 1 set ≡ x → ltb set (2 ^ p.tasks.count) ≡ y → known (task_set set) (length (plan_of p).tasks) ≡ (x && y)
+  known_by x y e f = (λ i. e i && ltb set (2 ^ tasks-size p.tasks i)) ∙ ap (λ (b : Bool). x && b) f
 
-  pub no_task_lem : set < 1 → Told plan_bytes due before before (Refused BadGap)
-  no_task_lem h = refusal (unknown-group (plan_of p) (task_set set) slots (known_by false (ltb set (2 ^ p.count)) (lt-leb 1 set h) refl))
+  pub no_task_lem : set < 1 → Told plan_bytes due before before (Err BadGap)
+  no_task_lem h = refusal (unknown-group (plan_of p) (task_set set) slots (known_by false (ltb set (2 ^ p.tasks.count)) (lt-leb 1 set h) refl))
 
   module _ (member : 1 ≤ set) where
-    pub foreign-task : 2 ^ p.count ≤ set → Told plan_bytes due before before (Refused BadGap)
-    foreign-task h = refusal (unknown-group (plan_of p) (task_set set) slots (known_by true false (le-leb 1 set member) (le-ltb set (2 ^ p.count) h)))
+    pub foreign-task : 2 ^ p.tasks.count ≤ set → Told plan_bytes due before before (Err BadGap)
+    foreign-task h = refusal (unknown-group (plan_of p) (task_set set) slots (known_by true false (le-leb 1 set member) (le-ltb set (2 ^ p.tasks.count) h)))
 
-    pub gap_written : set < 2 ^ p.count → 1 ≤ slots → slots ≤ max_gap → (q : Plan) → plan_of q ≡ gap_plan (plan_of p) (in_group (task_set set)) slots → (after : List ℕ) (n : ℕ) →
-        n ≡ length (plan_bytes (plan_of q)) → after ≡ overwrite before 0 (plan_bytes (plan_of q)) → Told plan_bytes due before after (Written n)
+    pub gap_written : set < 2 ^ p.tasks.count → 1 ≤ slots → slots ≤ max_gap → (q : Plan) → plan_of q ≡ gap_plan (plan_of p) (in_group (task_set set)) slots → (after : List ℕ) (n : ℕ) →
+        n ≡ length (plan_bytes (plan_of q)) → after ≡ overwrite before 0 (plan_bytes (plan_of q)) → Told plan_bytes due before after (Ok n)
     gap_written h low high q e after n size bytes =
         told-written plan_bytes due (plan_of q) before after n
-        (gap_due (plan_of p) (task_set set) slots (between-inside 1 slots max_gap low high) (known_by true true (le-leb 1 set member) (lt-ltb set (2 ^ p.count) h)) ∙ ap writes (sym e))
+        (gap_due (plan_of p) (task_set set) slots (between-inside 1 slots max_gap low high) (known_by true true (le-leb 1 set member) (lt-ltb set (2 ^ p.tasks.count) h)) ∙ ap writes (sym e))
         size bytes
 
 -- ---- what is written has the gap, and goes by the tasks of the group

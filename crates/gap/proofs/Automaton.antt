@@ -11,17 +11,17 @@ use borrow.Author.Tests.{lt-ltb, le-ltb}
 use lib.Bits.{bit_and, and_le_l}
 use lib.Count as count
 use lib.Dec.{ltb}
-use lib.ListN.{length, get_or, length-map}
+use lib.ListN.{length, get_or}
 use Rattle.model.specs.Limits.{max_states, max_gap}
 use Rattle.model.specs.Lists.{bit, one, up_from}
 use Rattle.model.specs.PlanBytes.{arcs_of}
 use Rattle.model.specs.Gap.{task_set, in_group, releases, gap_next, gap_plan}
-use Rattle.model.proofs.Lists.{get_or-table, length-up_from}
+use Rattle.model.proofs.Lists.{get_or-table}
 use Rattle.model.proofs.Runs.{ones-counted}
 use Rattle.theory.proofs.Bits.{bit_past, bit-and, ones-sum}
 use Rattle.theory.proofs.Sums.{sum_same, sum_past}
 use Rattle.plan.specs.declared.Plan.{Plan}
-use Rattle.plan.specs.View.{tasks_of, label_count, pair_count, arcs_in, next_of, entry_of, plan_of, Sized}
+use Rattle.plan.specs.View.{list_of, label_count, pair_count, arcs_in, next_of, entry_of, plan_of}
 use Rattle.plan.proofs.View.{tasks-size, pair_state, pair_label}
 use Rattle.plan.proofs.Arcs.{table-arcs}
 use Rattle.gap.specs.declared.Gap.{Gap}
@@ -72,23 +72,23 @@ module _ (g s n : ℕ) where
 -- ---- where a label leads from a state
 
 module _ (a : Gap) (s l : ℕ) where
-  led : (x y : Bool) → ltb s a.slots ≡ x → ltb l (2 ^ a.count) ≡ y →
-      leads a s l ≡ cond (x && y) (gap_next a.slots s (releases (in_group (task_set a.set)) a.count l)) none
-  led x y e f = λ i. cond (e i && f i) (gap_next a.slots s (releases (in_group (task_set a.set)) a.count l)) none
+  led : (x y : Bool) → ltb s a.slots ≡ x → ltb l (2 ^ a.tasks.count) ≡ y →
+      leads a s l ≡ cond (x && y) (gap_next a.slots s (releases (in_group (task_set a.set)) a.tasks.count l)) none
+  led x y e f = λ i. cond (e i && f i) (gap_next a.slots s (releases (in_group (task_set a.set)) a.tasks.count l)) none
 
   pub no_state : a.slots ≤ s → 0 ≡ entry_of (leads a s l)
-  no_state h = sym (ap entry_of (led false (ltb l (2 ^ a.count)) (le-ltb s a.slots h) refl))
+  no_state h = sym (ap entry_of (led false (ltb l (2 ^ a.tasks.count)) (le-ltb s a.slots h) refl))
 
   module _ (state : s < a.slots) where
-    pub no_label : 2 ^ a.count ≤ l → 0 ≡ entry_of (leads a s l)
-    no_label h = sym (ap entry_of (led true false (lt-ltb s a.slots state) (le-ltb l (2 ^ a.count) h)))
+    pub no_label : 2 ^ a.tasks.count ≤ l → 0 ≡ entry_of (leads a s l)
+    no_label h = sym (ap entry_of (led true false (lt-ltb s a.slots state) (le-ltb l (2 ^ a.tasks.count) h)))
 
-    pub by_releases : Fits a → l < 2 ^ a.count → entry_of (gap_next a.slots s (releases (in_group (task_set a.set)) 8 l)) ≡ entry_of (leads a s l)
+    pub by_releases : Fits a → l < 2 ^ a.tasks.count → entry_of (gap_next a.slots s (releases (in_group (task_set a.set)) 8 l)) ≡ entry_of (leads a s l)
     by_releases fits h =
         let of = in_group (task_set a.set) in
-        let eight : 8 ≡ a.count + (8 - a.count) = omega (arith, fits.few) in
-        ap (λ (k : ℕ). entry_of (gap_next a.slots s k)) (ap (λ (k : ℕ). releases of k l) eight ∙ releases_past of a.count (8 - a.count) l h)
-        ∙ sym (ap entry_of (led true true (lt-ltb s a.slots state) (lt-ltb l (2 ^ a.count) h)))
+        let eight : 8 ≡ a.tasks.count + (8 - a.tasks.count) = omega (arith, a.tasks.fits) in
+        ap (λ (k : ℕ). entry_of (gap_next a.slots s k)) (ap (λ (k : ℕ). releases of k l) eight ∙ releases_past of a.tasks.count (8 - a.tasks.count) l h)
+        ∙ sym (ap entry_of (led true true (lt-ltb s a.slots state) (lt-ltb l (2 ^ a.tasks.count) h)))
 
 -- ---- the table
 
@@ -102,26 +102,23 @@ at_pair a s l h k = get_or-table (pair_entry a) pair_count (s * label_count + l)
 
 -- its arcs are the automaton's
 gap_arcs : (a : Gap) → Fits a → (table : List ℕ) → table ≡ map (pair_entry a) (up_from 0 pair_count) →
-    arcs_in table ≡ arcs_of a.slots a.count (λ s l. gap_next a.slots s (releases (in_group (task_set a.set)) a.count l))
+    arcs_in table ≡ arcs_of a.slots a.tasks.count (λ s l. gap_next a.slots s (releases (in_group (task_set a.set)) a.tasks.count l))
 gap_arcs a f table e =
-    table-arcs table a.slots a.count (λ s l. gap_next a.slots s (releases (in_group (task_set a.set)) a.count l)) f.longest f.few
+    table-arcs table a.slots a.tasks.count (λ s l. gap_next a.slots s (releases (in_group (task_set a.set)) a.tasks.count l)) f.longest a.tasks.fits
     (λ s l h k. ap (λ (t : List ℕ). next_of (get_or t (s * label_count + l) 0)) e ∙ ap next_of (at_pair a s l h k) ∙ next-entry (leads a s l))
 
 -- ---- the plan
 
-module _ (p : Plan) (z : Sized p) (set slots : ℕ) (table : List ℕ) (e : table ≡ map (pair_entry (record { count = p.count; set = set; slots = slots })) (up_from 0 pair_count)) where
+module _ (p : Plan) (set slots : ℕ) (table : List ℕ) (e : table ≡ map (pair_entry (record { tasks = p.tasks; set = set; slots = slots })) (up_from 0 pair_count)) where
   -- the plan with the table in place of its own
   abbrev pub replaced : Plan
-  replaced = record { tasks = p.tasks; count = p.count; policy = p.policy; states = slots; next = table }
-
-  pub replaced_sized : Sized replaced
-  replaced_sized = record { fits = z.fits; room = z.room; spare = z.spare; table = ap length e ∙ length-map (up_from 0 pair_count) (pair_entry (record { count = p.count; set = set; slots = slots })) ∙ length-up_from 0 pair_count }
+  replaced = record { tasks = p.tasks; policy = p.policy; states = slots; next = table }
 
   pub replaced-plan : 1 ≤ slots → slots ≤ max_gap → plan_of replaced ≡ gap_plan (plan_of p) (in_group (task_set set)) slots
   unfolding gap_plan
-  replaced-plan s1 s2 = λ i. record { tasks = tasks_of p.tasks p.count; policy = p.policy; states = slots; arcs = same i }
+  replaced-plan s1 s2 = λ i. record { tasks = list_of p.tasks; policy = p.policy; states = slots; arcs = same i }
     where
-      same : arcs_in table ≡ arcs_of slots (length (tasks_of p.tasks p.count)) (λ s l. gap_next slots s (releases (in_group (task_set set)) (length (tasks_of p.tasks p.count)) l))
+      same : arcs_in table ≡ arcs_of slots (length (list_of p.tasks)) (λ s l. gap_next slots s (releases (in_group (task_set set)) (length (list_of p.tasks)) l))
       same =
-          gap_arcs (record { count = p.count; set = set; slots = slots }) (record { few = z.fits; shortest = s1; longest = s2 }) table e
-          ∙ ap (λ (n : ℕ). arcs_of slots n (λ s l. gap_next slots s (releases (in_group (task_set set)) n l))) (sym (tasks-size p z))
+          gap_arcs (record { tasks = p.tasks; set = set; slots = slots }) (record { shortest = s1; longest = s2 }) table e
+          ∙ ap (λ (n : ℕ). arcs_of slots n (λ s l. gap_next slots s (releases (in_group (task_set set)) n l))) (sym (tasks-size p.tasks))

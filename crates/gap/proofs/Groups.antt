@@ -18,8 +18,7 @@ use Rattle.model.proofs.Plan.{both, between-inside}
 use Rattle.model.proofs.Tests.{is_true, is_false, holds, fails}
 use Rattle.theory.proofs.Sound.{PlanSound, read-sound}
 use Rattle.theory.proofs.Groups.{set-of-one}
-use Rattle.refusals.specs.declared.Answer.{Answer}
-use Rattle.refusals.specs.Told.{Told}
+use Rattle.refusals.specs.Told.{Answer, Told}
 use Rattle.refusals.proofs.Told.{told_by}
 use Rattle.gap.specs.Groups.{set_of}
 use Rattle.gap.specs.Promise.{Rewrites}

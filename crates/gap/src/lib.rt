@@ -9,14 +9,14 @@ ghost use Rattle.model.specs.PlanBytes.{plan_bytes};
 ghost use Rattle.model.specs.Gap as model_gap;
 ghost use Rattle.model.specs.Gap.{one_task, task_set, in_group};
 ghost use Rattle.refusals.specs.Told.{Told};
-ghost use Rattle.plan.specs.View.{pair_count, entry_of, plan_of, Sized};
+ghost use Rattle.plan.specs.View.{pair_count, entry_of, plan_of};
 ghost use Rattle.gap.specs.Automaton.{Fits, leads, pair_entry};
 ghost use Rattle.gap.specs.Groups.{group_of, set_of};
 ghost use Rattle.gap.specs.Promise.{Rewrites};
 
 use node::Node;
-use plan::{Outcome, Plan};
-use refusals::{Answer, Refusal};
+use plan::{Plan, TaskList};
+use refusals::Refusal;
 
 // The longest gap has as many slots as an automaton has states.
 const MAX_GAP: u64 = Node::MAX_STATES as u64;
@@ -30,10 +30,10 @@ pub enum Group {
     Set(u64),
 }
 
-// A set of tasks, written as a label is, of a plan with so many tasks, and the slots from a release of one of them to the next.
+// A set of a plan's tasks, written as a label is, and the slots from a release of one of them to the next.
 #[derive(Clone, Copy)]
 struct Gap {
-    count: usize,
+    tasks: TaskList,
     set: u8,
     slots: u8,
 }
@@ -75,7 +75,7 @@ fn entry(gap: Gap, state: u8, label: u8) -> u8
     if gap.slots <= state {
         return 0;
     }
-    if plan::labels(gap.count) <= label as usize {
+    if gap.tasks.labels() <= label as usize {
         return 0;
     }
     next_entry(gap.slots, state, releases(gap.set, label))
@@ -86,26 +86,23 @@ fn table(gap: Gap) -> [u8; plan::PAIRS]
     requires { Fits gap }
     ensures { result ≡ map (pair_entry gap) (up_from 0 pair_count) }
 {
+    // By a loop: what `array::from_fn` tells of an entry does not say that its closure still had this gap.
     let mut next = plan::empty_table();
-    let mut k = 0;
-    while k < plan::PAIRS {
+    for k in 0..plan::PAIRS {
         next[k] = entry(gap, (k / plan::LABELS) as u8, (k % plan::LABELS) as u8);
-        k += 1;
     }
     next
 }
 
 // The plan with an automaton that keeps the gap in place of its own.
 fn with_gap(plan: Plan, set: u8, slots: u8) -> Plan
-    requires { Sized plan × (1 ≤ slots) × (slots ≤ max_gap) }
-    ensures { Sized result × (plan_of result ≡ model_gap.gap_plan (plan_of plan) (in_group (task_set set)) slots) }
+    requires { (1 ≤ slots) × (slots ≤ max_gap) }
+    ensures { plan_of result ≡ model_gap.gap_plan (plan_of plan) (in_group (task_set set)) slots }
 {
     let tasks = plan.tasks;
-    let count = plan.count;
-    let next = table(Gap { count, set, slots });
+    let next = table(Gap { tasks, set, slots });
     Plan {
         tasks,
-        count,
         policy: plan.policy,
         states: slots,
         next,
@@ -113,40 +110,36 @@ fn with_gap(plan: Plan, set: u8, slots: u8) -> Plan
 }
 
 // Writes the plan with the gap, or refuses a gap that is none, no task, or a task that the plan lacks.
-fn gap_in(plan: Plan, set: u64, slots: u64, out: &mut [u8]) -> Answer
-    requires { Sized plan × (plan_room ≤ length out.old) }
+fn gap_in(plan: Plan, set: u64, slots: u64, out: &mut [u8]) -> Result<usize, Refusal>
+    requires { plan_room ≤ length out.old }
     ensures { Told plan_bytes (model_gap.gap_in (plan_of plan) (task_set set) slots) out.old out.new result }
 {
     if slots < 1 {
-        return Answer::Refused(Refusal::BadGap);
+        return Err(Refusal::BadGap);
     }
     if MAX_GAP < slots {
-        return Answer::Refused(Refusal::BadGap);
+        return Err(Refusal::BadGap);
     }
     if set < 1 {
-        return Answer::Refused(Refusal::BadGap);
+        return Err(Refusal::BadGap);
     }
-    if plan::labels(plan.count) as u64 <= set {
-        return Answer::Refused(Refusal::BadGap);
+    let labels = plan.tasks.labels() as u64;
+    if labels <= set {
+        return Err(Refusal::BadGap);
     }
     let written = with_gap(plan, set as u8, slots as u8);
-    Answer::Written(plan_bytes::write(written, out))
+    Ok(plan_bytes::write(written, out))
 }
 
 // The same for the bytes of a plan: short output is refused first, then the plan's own faults.
-fn rewrite_set(plan: &[u8], set: u64, slots: u64, out: &mut [u8]) -> Answer
+fn rewrite_set(plan: &[u8], set: u64, slots: u64, out: &mut [u8]) -> Result<usize, Refusal>
     ensures { Told plan_bytes (model_gap.group_gap plan.now (task_set set) slots (length out.old)) out.old out.new result }
 {
     if out.len() < plan_bytes::PLAN_ROOM {
-        return Answer::Refused(Refusal::ShortMemory);
+        return Err(Refusal::ShortMemory);
     }
-    let read = plan::read(plan);
-    let outcome = read.outcome;
-    let found = read.plan;
-    match outcome {
-        Outcome::Faulty(f) => Answer::Refused(Refusal::Plan(f)),
-        Outcome::Sound => gap_in(found, set, slots, out),
-    }
+    let plan = plan::read(plan)?;
+    gap_in(plan, set, slots, out)
 }
 
 // The set of one task; of a number that is no plan's task the empty set.
@@ -174,7 +167,7 @@ fn set_of(group: Group) -> u64
 
 // Writes a plan's tasks and policy with an automaton that keeps a gap of so many slots between the releases of a group, for all bytes and
 // numbers.
-pub fn rewrite(plan: &[u8], group: Group, slots: u64, out: &mut [u8]) -> Answer
+pub fn rewrite(plan: &[u8], group: Group, slots: u64, out: &mut [u8]) -> Result<usize, Refusal>
     ensures { Rewrites plan.now (group_of group) slots out.old out.new result }
 {
     rewrite_set(plan, set_of(group), slots, out)

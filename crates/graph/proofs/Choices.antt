@@ -1,35 +1,36 @@
 -- How the outcomes that a label offers are noted, task by task and mask by mask.
 -- Assumes nothing.
-use mathlib.Core.Path.{◌≡◌, refl, sym, ◌∙◌, ap, ap₂, subst}
-use mathlib.Core.Bool.{Bool, true, false, cond}
+use mathlib.Core.Path.{◌≡◌, sym, ◌∙◌, ap, ap₂, subst}
 use mathlib.Core.Logic.{inl, inr}
-use mathlib.Core.List.{List, [], ◌∷◌, ◌++◌, foldl, foldl-append}
+use mathlib.Core.List.{List, [], ◌∷◌, ◌++◌, append_assoc, append-nil, foldl, foldl-append}
 use Prim.Native.Nat.{ℕ, suc, ◌+◌, ◌-◌, ◌*◌, ◌/◌, ◌^◌, ◌<◌, ◌≤◌}
 use native.Mathlib.Nat.{pow-suc, pow-le-pow_right, mul_assoc, mul-le-mul_left}
 use native.Mathlib.Numerals.{add-one}
 use native.Mathlib.Omega.{arith}
 use lib.Bits.{bit_or, or_lt}
-use lib.Dec.{eqb, lit<}
+use lib.Dec.{lit<}
 use lib.Pow.{pow_mono}
-use borrow.Author.Tests.{eqb-false}
-use lib.ListN.{length, get_or, drop}
-use lib.Seq.{drop-cons, get_or-take, get_or-drop}
-use Rattle.model.specs.Bytes.{part, Only}
+use lib.ListN.{length, get_or, take, drop}
+use lib.Seq.{take_all, get_or-take, get_or-drop}
+use Rattle.std.proofs.lemmas.List.{take_more}
+use Rattle.model.specs.Bytes.{Only}
 use Rattle.model.specs.Limits.{max_tasks, max_window}
 use Rattle.model.specs.Masks.{mask_count}
 use Rattle.words.specs.Packed.{field_base}
-use Rattle.words.proofs.Memory.{part_ext}
-use Rattle.masks.specs.Clear.{clear_in, clear_runs, Lists}
+use Rattle.words.proofs.Memory.{part_length}
+use Rattle.model.specs.Lists.{flat_map}
+use Rattle.model.proofs.Lists.{flat_map-append}
+use Rattle.masks.specs.Clear.{Lists}
 use Rattle.masks.proofs.Clear.{clear_low, runs-low}
 use Rattle.graph.specs.Outcomes.{pattern_count, Outcome, outcome_in, note, noted_masks_at, order_at, lists_at, list_place, note_room, score_at, word_base, pattern_in, notes_in, Tallied, Room, Keeps, Noting}
-use Rattle.graph.specs.Offers.{span_start_in, span_end_in, lock_in, value_in, task_count, masks_offered, SpanFits, OffersFit, offered, offered_with, Carries, Listed}
-use Rattle.graph.proofs.Notes.{few, keeps_refl, keeps_trans, keeps_fewer}
+use Rattle.graph.specs.Offers.{clear_span, SpanFits, offer_in, masks_offered, OffersFit, offered, offered_with, Carries}
+use Rattle.graph.specs.declared.Offers.{Offers}
+use Rattle.graph.specs.declared.Span.{Span}
+use Rattle.graph.specs.declared.Span.TheVariants.{Table, Runs}
+use Rattle.graph.proofs.Notes.{few, keeps_trans, keeps_fewer}
 use Rattle.graph.proofs.Tables.{table_same}
 
 -- ---- noting one list of outcomes after another
-
-pub noting_none : (wanted place : ℕ) (m : List ℕ) (n : ℕ) → Room m n → Noting wanted [] place m n m n
-noting_none wanted place m n r = record { notes = refl; keeps = keeps_refl; room = r }
 
 pub noting_append : (wanted place : ℕ) (os os' : List Outcome) (m₀ : List ℕ) (n₀ : ℕ) (m₁ : List ℕ) (n₁ : ℕ) (m₂ : List ℕ) (n₂ : ℕ)
     → Noting wanted os place m₀ n₀ m₁ n₁ → Noting wanted os' place m₁ n₁ m₂ n₂ → Noting wanted (os ++ os') place m₀ n₀ m₂ n₂
@@ -68,105 +69,104 @@ list_noting wanted m m' from k count behind inside o r =
 -- ---- the steps of the recursion
 
 -- no task is left
-pub offered-last : (offers : List ℕ) (i p g x : ℕ) → i ≡ task_count offers → offered offers (task_count offers - i) i p g x ≡ outcome_in (p / 2) g x ∷ []
+pub offered-last : (offers : Offers) (i p g x : ℕ) → i ≡ offers.count → offered offers (offers.count - i) i p g x ≡ outcome_in (p / 2) g x ∷ []
 unfolding offered
-offered-last offers i p g x e = let z : task_count offers - i ≡ 0 = omega arith in rw z
+offered-last offers i p g x e = let z : offers.count - i ≡ 0 = omega arith in rw z
 
 -- no mask for the next task, and then its masks
-pub offered-next : (offers : List ℕ) (i p g x : ℕ) → i < task_count offers
-    → offered offers (task_count offers - i) i p g x
-    ≡ offered offers (task_count offers - (i + 1)) (i + 1) p g (x * field_base)
-    ++ offered_with offers (task_count offers - (i + 1)) (i + 1) p (g + value_in offers i) (x * field_base) (masks_offered offers i p)
+pub offered-next : (offers : Offers) (i p g x : ℕ) → i < offers.count
+    → offered offers (offers.count - i) i p g x
+    ≡ offered offers (offers.count - (i + 1)) (i + 1) p g (x * field_base)
+    ++ offered_with offers (offers.count - (i + 1)) (i + 1) p (g + (offer_in offers i).value) (x * field_base) (masks_offered offers i p)
 unfolding offered offered_with
-offered-next offers i p g x lt = let s : task_count offers - i ≡ suc (task_count offers - (i + 1)) = omega arith in rw s
+offered-next offers i p g x lt = let s : offers.count - i ≡ suc (offers.count - (i + 1)) = omega arith in rw s
 
-pub with_none : (offers : List ℕ) (k i p g x : ℕ) (m : List ℕ) (at end : ℕ) → at ≡ end → offered_with offers k i p g x (part m at (end - at)) ≡ []
-unfolding offered_with
-with_none offers k i p g x m at end e = let z : end - at ≡ 0 = omega arith in rw z
+-- the outcomes without a mask for the task i, and those with the first n of its masks
+abbrev pub so_far : Offers → (i p g x n : ℕ) → List Outcome
+so_far o i p g x n =
+    offered o (o.count - (i + 1)) (i + 1) p g (x * field_base)
+    ++ offered_with o (o.count - (i + 1)) (i + 1) p (g + (offer_in o i).value) (x * field_base) (take n (masks_offered o i p))
 
--- a mask, and then the masks behind it
-pub with_more : (offers : List ℕ) (k i p g x : ℕ) (m : List ℕ) (at end : ℕ) → at < end → end ≤ length m
-    → offered_with offers k i p g x (part m at (end - at))
-    ≡ offered offers k i (bit_or p (get_or m at 0)) g (x + get_or m at 0) ++ offered_with offers k i p g x (part m (at + 1) (end - (at + 1)))
-unfolding offered_with
-with_more offers k i p g x m at end lt le =
-    let s : end - at ≡ suc (end - (at + 1)) = omega arith in
-    rw (s, drop-cons m at 0 (omega arith), ← add-one at)
+module _ (o : Offers) (i p g x n : ℕ) where
+  pub so_far-none : n ≡ 0 → so_far o i p g x n ≡ offered o (o.count - (i + 1)) (i + 1) p g (x * field_base) ++ []
+  unfolding offered_with
+  so_far-none e = rw e
+
+  -- with one mask more
+  pub so_far-more : n < length (masks_offered o i p) → (m : ℕ) → m ≡ get_or (masks_offered o i p) n 0
+      → so_far o i p g x (n + 1) ≡ so_far o i p g x n ++ offered o (o.count - (i + 1)) (i + 1) (bit_or p m) (g + (offer_in o i).value) (x * field_base + m)
+  unfolding offered_with
+  so_far-more lt m e =
+      ap (λ (l : List Outcome). first ++ l)
+      (ap (flat_map of) (take_more (masks_offered o i p) n 0 lt) ∙ flat_map-append of (take n (masks_offered o i p)) (get_or (masks_offered o i p) n 0 ∷ [])
+      ∙ ap (λ (l : List Outcome). flat_map of (take n (masks_offered o i p)) ++ l) (append-nil (of (get_or (masks_offered o i p) n 0)) ∙ ap of (sym e)))
+      ∙ sym (append_assoc first (flat_map of (take n (masks_offered o i p))) (of m))
+    where
+      first : List Outcome
+      first = offered o (o.count - (i + 1)) (i + 1) p g (x * field_base)
+
+      of : ℕ → List Outcome
+      of m = offered o (o.count - (i + 1)) (i + 1) (bit_or p m) (g + (offer_in o i).value) (x * field_base + m)
+
+  pub so_far-all : i < o.count → length (masks_offered o i p) ≤ n → so_far o i p g x n ≡ offered o (o.count - i) i p g x
+  so_far-all lt le =
+      ap (λ (l : List ℕ). offered o (o.count - (i + 1)) (i + 1) p g (x * field_base) ++ offered_with o (o.count - (i + 1)) (i + 1) p (g + (offer_in o i).value) (x * field_base) l)
+      (take_all n (masks_offered o i p) le)
+      ∙ sym (offered-next o i p g x lt)
+
+-- a list of masks, and with what was noted behind it
+module _ {ms : List ℕ} {room from r : ℕ} {m₁ m : List ℕ} (c : Lists ms room from m₁ m r) where
+  pub listed-length : from + room ≤ length m₁ → length ms ≡ r - from
+  listed-length h = ap length (sym c.listed) ∙ part_length m from (r - from) (omega (arith, c.only.long, c.starts, c.ends))
+
+  pub listed-mask : {place : ℕ} {m' : List ℕ} → Keeps place m m' → lists_at ≤ from → r ≤ place → (at : ℕ) → from ≤ at → at < r
+      → get_or m' at 0 ≡ get_or ms (at - from) 0
+  listed-mask k low high at le lt =
+      let e : from + (at - from) ≡ at = omega arith in
+      k.lists at (omega arith) (omega arith)
+      ∙ ap (λ (j : ℕ). get_or m j 0) (sym e) ∙ sym (get_or-drop from m (at - from) 0)
+      ∙ sym (get_or-take (r - from) (drop from m) (at - from) 0 (omega arith))
+      ∙ ap (λ (l : List ℕ). get_or l (at - from) 0) c.listed
 
 -- ---- what is carried
-
-more_room : (i x : ℕ) → x + 1 ≤ field_base ^ i → x * field_base + field_base ≤ field_base ^ (i + 1)
-more_room i x h = rw (add-one i, pow-suc field_base i) (omega arith)
 
 power_le : (i : ℕ) → i ≤ max_tasks → field_base ^ i ≤ field_base ^ max_tasks
 power_le i h = pow-le-pow_right (lit< tt) {i = i} {j = max_tasks} h
 
-module _ {offers : List ℕ} {i p g x : ℕ} (o : OffersFit offers) (lt : i < task_count offers) where
-  pub carries_idle : Carries offers i p g x 1 → Carries offers (i + 1) p g (x * field_base) 1
-  carries_idle c = record { task = omega arith; pattern = c.pattern; gain = omega (arith, c.gain); masks = omega (arith, more_room i x c.masks) }
+module _ {offers : Offers} {i p g x : ℕ} (o : OffersFit offers) (lt : i < offers.count) (c : Carries offers i p g x) where
+  -- the masks moved up, and one more
+  moved-room : x * field_base + field_base ≤ field_base ^ (i + 1)
+  moved-room = let h : x + 1 ≤ field_base ^ i = omega (arith, c.masks) in rw (add-one i, pow-suc field_base i) (omega arith)
 
-  pub carries-masks : Carries offers i p g x 1 → Carries offers (i + 1) p (g + value_in offers i) (x * field_base) field_base
-  carries-masks c = record { task = omega arith; pattern = c.pattern; gain = omega (arith, c.gain, o.value i lt); masks = omega (arith, more_room i x c.masks) }
+  -- they are a number of 64 bits
+  pub moved-fits : x * field_base + field_base ≤ field_base ^ max_tasks
+  moved-fits = omega (arith, moved-room, power_le (i + 1) (omega (arith, o.few)))
 
-  -- the masks moved up are a number of 64 bits
-  pub moved-fits : Carries offers i p g x 1 → x * field_base < field_base ^ max_tasks
-  moved-fits c =
-      omega (arith, more_room i x c.masks, power_le (i + 1) (omega (arith, o.few)))
-
--- a mask joins
-pub carries-mask : {offers : List ℕ} {i p g x : ℕ} (m : ℕ) → m < mask_count → Carries offers i p g x field_base → Carries offers i (bit_or p m) g (x + m) 1
-carries-mask {p = p} m low c = record { task = c.task; pattern = or_lt max_window p m c.pattern low; gain = c.gain; masks = omega (arith, c.masks) }
-
-pub joined-fits : {offers : List ℕ} {i p g x : ℕ} (m : ℕ) → m < mask_count → OffersFit offers → Carries offers i p g x field_base → x + m < field_base ^ max_tasks
-joined-fits {i = i} m low o c =
-    omega (arith, c.masks, power_le i (omega (arith, o.few, c.task)))
+  -- a mask joins
+  pub carries-mask : (m : ℕ) → m < mask_count → Carries offers (i + 1) (bit_or p m) (g + (offer_in offers i).value) (x * field_base + m)
+  carries-mask m low = record {
+    task = omega arith;
+    pattern = or_lt max_window p m c.pattern low;
+    gain = omega (arith, c.gain, o.value i lt);
+    masks = omega (arith, moved-room);
+  }
 
 -- the masks that are offered
-pub offered-low : (offers : List ℕ) (i taken : ℕ) → SpanFits offers i → (k : ℕ) → get_or (masks_offered offers i taken) k 0 < mask_count
-offered-low offers i taken f k = by (eqb (lock_in offers i) 0) refl
+pub offered-low : (taken : ℕ) (s : Span) → SpanFits s → (k : ℕ) → get_or (clear_span taken s) k 0 < mask_count
+offered-low taken (Table at end) f k = clear_low taken at end k
+offered-low taken (Runs first count) f k = runs-low taken first count mask_count (lit< tt) run-low k
   where
-    first : ℕ
-    first = span_start_in offers i
-
-    count : ℕ
-    count = span_end_in offers i
-
     -- each run but the last is followed by another
-    run-low : (lock_in offers i ≡ 0 → ⊥) → (j : ℕ) → j < count → first * 2 ^ j < mask_count
-    run-low ne j lt =
+    run-low : (j : ℕ) → j < count → first * 2 ^ j < mask_count
+    run-low j lt =
         let next : first * 2 ^ suc j ≤ first * 2 ^ count = mul-le-mul_left first (pow_mono {i = suc j} {j = count} lt) in
         let twice : first * 2 ^ suc j ≡ first * 2 ^ j * 2 = ap (λ (x : ℕ). first * x) (pow-suc 2 j) ∙ sym (mul_assoc first (2 ^ j) 2) in
-        omega (arith, f.runs ne, next, twice)
+        omega (arith, f.1, next, twice)
 
-    by : (b : Bool) → eqb (lock_in offers i) 0 ≡ b → get_or (cond b (clear_in taken first count) (clear_runs taken first count)) k 0 < mask_count
-    by true e = clear_low taken first count k
-    by false e = runs-low taken first count mask_count (lit< tt) (run-low (eqb-false (lock_in offers i) 0 e)) k
-
--- the list of masks
-pub listed-masks : (ms : List ℕ) → ((k : ℕ) → get_or ms k 0 < mask_count) → (i : ℕ) (m m' : List ℕ) (r : ℕ) → i < max_tasks → note_room ≤ length m
-    → Lists ms mask_count (list_place i) m m' r → Listed m' (i + 1) (list_place i) r
-listed-masks ms below i m m' r lt room c = record {
-  from = omega arith;
-  order = c.starts;
-  within = omega (arith, c.ends);
-  low = λ k h h'. subst (λ (n : ℕ). n < mask_count) (entry k h h') (below (k - list_place i));
-}
-  where
-    entry : (k : ℕ) → list_place i ≤ k → k < r → get_or ms (k - list_place i) 0 ≡ get_or m' k 0
-    entry k h h' =
-        let e : list_place i + (k - list_place i) ≡ k = omega arith in
-        ap (λ (l : List ℕ). get_or l (k - list_place i) 0) (sym c.listed) ∙ get_or-take (r - list_place i) (drop (list_place i) m') (k - list_place i) 0 (omega arith)
-        ∙ get_or-drop (list_place i) m' (k - list_place i) 0 ∙ ap (λ (j : ℕ). get_or m' j 0) e
-
--- the list that is left, with what was noted in between
-pub listed-later : {m m' : List ℕ} {i at end : ℕ} → at < end → Keeps (list_place i) m m' → Listed m i at end → Listed m' i (at + 1) end
-listed-later lt k l = record {
-  from = omega (arith, l.from);
-  order = omega arith;
-  within = l.within;
-  low = λ j h h'. subst (λ (n : ℕ). n < mask_count) (sym (k.lists j (omega (arith, l.from)) (omega (arith, l.within)))) (l.low j (omega arith) h');
-}
-
-pub part-kept : {m m' : List ℕ} {i at end : ℕ} → Keeps (list_place i) m m' → Listed m i at end → part m' at (end - at) ≡ part m at (end - at)
-part-kept {m} {m'} {at = at} {end = end} k l =
-    part_ext m' m at (end - at) k.long (λ j h. k.lists (at + j) (omega (arith, l.from)) (omega (arith, l.within, l.order)))
+-- a mask of a task's list is one that it is offered
+pub mask-listed : (o : Offers) (i p : ℕ) → OffersFit o → i < o.count → {room r : ℕ} {m₁ m m' : List ℕ} → Lists (masks_offered o i p) room (list_place i) m₁ m r
+    → r ≤ list_place (i + 1) → Keeps (list_place (i + 1)) m m' → (at : ℕ) → list_place i ≤ at → at < r
+    → (get_or m' at 0 ≡ get_or (masks_offered o i p) (at - list_place i) 0) × (get_or m' at 0 < mask_count)
+mask-listed o i p f lt c within k at le less =
+    let is = listed-mask c k (omega arith) within at le less in
+    (is, rw is (offered-low p (offer_in o i).span (f.span i lt) (at - list_place i)))

@@ -16,21 +16,20 @@ use Rattle.model.specs.Check.{padded, is_step, find_step}
 use Rattle.model.specs.Graph.{choices, edge_of, edges_to, edges_at, edges}
 use Rattle.model.specs.Limits.{max_states}
 use Rattle.model.specs.Lists.{same_numbers, flat_map, up_from}
-use Rattle.model.specs.Masks.{mask_count}
 use Rattle.model.specs.Plan.{Plan, next_in}
 use Rattle.model.specs.Slot.{Done, slot, ready}
 use Rattle.model.proofs.Lists.{flat_map-append, up_from-append, mem-of-up_from}
 use Rattle.theory.proofs.Edges.{mem-edges_at}
 use Rattle.theory.proofs.Sound.{sound-plan, label-below}
-use Rattle.plan.specs.View.{arcs_in}
-use Rattle.policy.specs.View.{cell_count, jobs_of, Cells, tasks_in, Ruled}
+use Rattle.std.specs.Prelude.{None}
+use Rattle.plan.specs.View.{arcs_in, TableFits}
+use Rattle.policy.specs.View.{jobs_of, tasks_in, Ruled}
 use Rattle.policy.proofs.Plans.{states_fit_lem}
 use Rattle.policy.specs.declared.Rules.{Rules}
 use Rattle.node.specs.declared.Node.{Node}
-use Rattle.graph.specs.View.{node_of, Planned, plan_by, TableFits}
+use Rattle.graph.specs.View.{node_of, Planned, plan_by}
 use Rattle.graph.specs.Choice.{Led, find_choice, led_by, choice_of}
-use Rattle.graph.specs.Edge.{End, end_in, no_edge, Stepped}
-use Rattle.graph.specs.declared.Edge.{Edge}
+use Rattle.graph.specs.Edge.{End, end_in, Stepped}
 
 module _ (s : Step) where
   -- ---- among the edges of the label
@@ -146,7 +145,7 @@ find_choice_lem P u s t (ms ∷ cs) =
     by true h = refl
     by false h = h
 
-module _ (r : Rules) (size : length (tasks_in r) ≡ r.count) (next : List ℕ) (table : TableFits next r.count) (u : Node) (l : ℕ) (ms : List ℕ) where
+module _ (r : Rules) (size : length (tasks_in r) ≡ r.tasks.count) (next : List ℕ) (table : TableFits next r.tasks.count) (u : Node) (l : ℕ) (ms : List ℕ) where
   abbrev P : Plan
   P = plan_by r next max_states
 
@@ -176,11 +175,9 @@ module _ (r : Rules) (size : length (tasks_in r) ≡ r.count) (next : List ℕ) 
       ∙ sym (λ i. end_by (slotted i) t (chosen i))
 
 -- where there is no edge, none is right
-pub stepped-none : (next : List ℕ) (r : Rules) (u : Node) (l : ℕ) (ms : List ℕ) (e : Edge) → e ≡ no_edge u → Cells (tasks_in r) cell_count u.cells → u.state < max_states → u.taken < mask_count
-    → end_in (find_step (record { label = l; masks = ms }) (edges (plan_by r next max_states) (node_of (tasks_in r) u))) ≡ none → Stepped next r u l ms e
-stepped-none next r u l ms e is cells state taken missing =
-    subst (Stepped next r u l ms) (sym is)
-    (record { edge = sym missing; absent = λ f. refl; cells = cells; state = state; taken = taken; kept = omega arith; ideal = omega arith })
+pub stepped-none : (next : List ℕ) (r : Rules) (u : Node) (l : ℕ) (ms : List ℕ)
+    → end_in (find_step (record { label = l; masks = ms }) (edges (plan_by r next max_states) (node_of (tasks_in r) u))) ≡ none → Stepped next r u l ms None
+stepped-none next r u l ms missing = record { edge = sym missing; fits = λ e is. cc }
 
 -- ---- the plans of a table
 
@@ -203,7 +200,7 @@ module _ {P : Plan} {r : Rules} {next : List ℕ} (planned : Planned P r next) w
       ∙ states_free r next P.states max_states u
 
   -- and a sound plan's table fits
-  pub planned-table : Ruled r → TableFits next r.count
+  pub planned-table : Ruled r → TableFits next r.tasks.count
   planned-table ruled = record {
     states = states_fit_lem P planned.sound next planned.arcs;
     labels = λ s l t e.

@@ -1,7 +1,7 @@
 pub mod View
 pub mod Tables
 pub mod Notes
-pub mod Offers
+pub mod Offered
 pub mod Choices
 pub mod Outcomes
 pub mod Adding

@@ -4,13 +4,13 @@ use mathlib.Core.Path.{◌≡◌, refl, sym, ◌∙◌, ap, ap₂, subst}
 use mathlib.Core.Bool.{Bool, true, false, cond}
 use mathlib.Core.Logic.{◌⊎◌, inl, ⊎_elim}
 use mathlib.Core.List.{List, [], ◌∷◌, ◌++◌, map}
-use Prim.Native.Nat.{ℕ, ◌+◌, ◌*◌, ◌/◌, ◌%◌, ◌<◌, ◌≤◌}
+use Prim.Native.Nat.{ℕ, ◌+◌, ◌-◌, ◌*◌, ◌/◌, ◌%◌, ◌<◌, ◌≤◌}
 use native.Mathlib.Nat.{div-add-mod'}
 use native.Mathlib.Decide.{dec_lt}
 use native.Mathlib.Omega.{arith}
 use lib.Dec.{eqb, ltb}
-use lib.ListN.{length, get_or, set, replicate, length-append, length-set, length-replicate}
-use lib.Seq.{get_or-set_same, get_or-set_other}
+use lib.ListN.{length, get_or, set, drop, replicate, length-append, length-set, length-drop, length-replicate, get_or-append, get_or-replicate}
+use lib.Seq.{get_or-set_same, get_or-set_other, get_or-drop, get_or-append_right}
 use borrow.Author.Tests.{lt-ltb, le-leb, lt-leb, eq-eqb, ne_eqb}
 use Rattle.model.specs.Lists.{keep, up_from, one}
 use Rattle.model.proofs.Lists.{length-keep-le, get_or-table, table_more}
@@ -270,9 +270,17 @@ notes-cleared m m' room long zero others = record {
         masks : masks_in m' ≡ 0
         masks = ap₂ (λ (a b : ℕ). a * word_base + b) (zero noted_masks_at (omega arith)) (zero (noted_masks_at + 1) (omega arith))
 
--- room for notes
-pub notes-long : {r : List ℕ} → r ≡ replicate note_room 0 → length r ≡ note_room
-notes-long e = ap length e ∙ length-replicate {A = ℕ} note_room 0
+-- the numbers before the order are written over with zeros
+pub front-cleared : (m zeros : List ℕ) → note_room ≤ length m → zeros ≡ replicate order_at 0 → Cleared m (zeros ++ drop order_at m)
+front-cleared m zeros room e =
+    notes-cleared m (zeros ++ drop order_at m) room (omega (arith, size, length-append zeros (drop order_at m), length-drop order_at m))
+    (λ i h. get_or-append zeros (drop order_at m) 0 i (omega (arith, size)) ∙ ap (λ (l : List ℕ). get_or l i 0) e ∙ get_or-replicate order_at i 0 0 h)
+    (λ i h.
+    let at : order_at + (i - length zeros) ≡ i = omega (arith, size) in
+    get_or-append_right zeros (drop order_at m) i 0 (omega (arith, size)) ∙ get_or-drop order_at m (i - length zeros) 0 ∙ ap (λ (k : ℕ). get_or m k 0) at)
+  where
+    size : length zeros ≡ order_at
+    size = ap length e ∙ length-replicate {A = ℕ} order_at 0
 
 -- ---- reading notes
 

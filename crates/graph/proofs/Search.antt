@@ -7,7 +7,7 @@ use mathlib.Core.List.Memᴰ
 use mathlib.Core.List.{List, [], ◌∷◌, ◌++◌, map, Memᴰ}
 use mathlib.Core.Option.{Option, none, some}
 use Prim.Native.Nat.{ℕ, zero, suc, ◌+◌, ◌-◌, ◌*◌, ◌/◌, ◌%◌, ◌^◌, ◌<◌, ◌≤◌}
-use native.Mathlib.Nat.{add-zero, add_assoc, mul-one, mul_assoc, pow-succ', div-lt_iff_lt-mul, div-one}
+use native.Mathlib.Nat.{add-zero, add_assoc, div-lt_iff_lt-mul, div-one}
 use native.Mathlib.Decide.{dec_lt}
 use native.Mathlib.Omega.{arith}
 use lib.Bits.{bit_and, bit_or}
@@ -19,19 +19,17 @@ use borrow.Author.Tests.{eq-eqb, ne_eqb, eqb-true, eqb-false, lt-ltb, ltb-true, 
 use Rattle.model.specs.Check.{padded}
 use Rattle.model.specs.Graph.{choices, joined, worth}
 use Rattle.model.specs.Limits.{max_tasks, max_window}
-use Rattle.model.specs.Lists.{any, up_from, same_numbers, ones}
+use Rattle.model.specs.Lists.{any, up_from, same_numbers, ones, bit}
 use Rattle.model.specs.Masks.{mask_count, neighbouring, masks_of}
 use Rattle.model.specs.Plan.{Task}
 use Rattle.model.specs.Slot.{no_task}
-use Rattle.model.proofs.Lists.{mem-of-flat_map, mem-flat_map}
+use Rattle.model.proofs.Lists.{mem-of-flat_map, mem-flat_map, mem-of-up_from, mem-up_from}
 use Rattle.model.proofs.Plan.{both}
-use Rattle.model.proofs.Tests.{same_numbers_lem}
+use Rattle.model.proofs.Tests.{same_numbers_lem, any_some}
 use Rattle.theory.proofs.Bits.{Apart, and-apart, zero_no_bit}
 use Rattle.theory.proofs.Edges.{MaskOf, Picked, mem-masks_of, mem-choices}
 use Rattle.policy.specs.View.{Tasks}
-use Rattle.graph.specs.Outcomes.{chosen_with, tasks_released, Released}
-use Rattle.graph.specs.Choice.{Led, find_choice, led_by, choice_of, fits_task, all_zero, choice_from, next_choice}
-use Rattle.graph.specs.declared.Release.{Release}
+use Rattle.graph.specs.Choice.{Led, find_choice, led_by, choice_of, chosen_with, fits_task, all_zero, choice_from, next_choice}
 use Rattle.graph.specs.declared.Chosen.{Chosen}
 
 -- ---- one mask
@@ -50,15 +48,22 @@ module _ (m w : ℕ) where
           absurd (ne (omega arith))
       by (no h) = omega arith
 
--- a run by its places: the first of them, and the others from a run of twice its value
-module _ (m : ℕ) where
-  run_shift : (run i n : ℕ) → any (λ k. eqb m (run * 2 ^ k)) (up_from (suc i) n) ≡ any (λ k. eqb m (run * 2 * 2 ^ k)) (up_from i n)
-  run_shift run i zero = refl
-  run_shift run i (suc n) =
-      ap₂ (λ (a b : Bool). a || b) (ap (eqb m) (ap (λ (x : ℕ). run * x) (pow-succ' 2 i) ∙ sym (mul_assoc run 2 (2 ^ i)))) (run_shift run (suc i) n)
+-- runs by their places: one of them is the mask, or none is
+module _ (m run n : ℕ) where
+  abbrev is : ℕ → Bool
+  is k = eqb m (run * 2 ^ k)
 
-  pub run_step : (run n : ℕ) → any (λ k. eqb m (run * 2 ^ k)) (up_from 0 (suc n)) ≡ (eqb m run || any (λ k. eqb m (run * 2 * 2 ^ k)) (up_from 0 n))
-  run_step run n = ap₂ (λ (a b : Bool). a || b) (ap (eqb m) (mul-one run)) (run_shift run 0 n)
+  pub run-at : (k : ℕ) → k < n → m ≡ run * 2 ^ k → any is (up_from 0 n) ≡ true
+  run-at k lt e = (any_some is (up_from 0 n)).1 (k, mem-up_from 0 n (omega arith) (omega arith), eq-eqb m (run * 2 ^ k) e)
+
+  pub no_run : ((k : ℕ) → k < n → m ≡ run * 2 ^ k → ⊥) → any is (up_from 0 n) ≡ false
+  no_run h = by (any is (up_from 0 n)) refl
+    where
+      by : (b : Bool) → any is (up_from 0 n) ≡ b → b ≡ false
+      by false e = refl
+      by true e =
+          let r = (any_some is (up_from 0 n)).0 e in
+          absurd (h r.0 (omega (arith, mem-of-up_from 0 n r.1)) (eqb-true m (run * 2 ^ r.0) r.2))
 
 module _ (t : Task) (taken m : ℕ) where
   pub fits-zero : (b : Bool) → m ≡ 0 → fits_task t b taken m ≡ true
@@ -274,60 +279,40 @@ module _ (ts : Tasks) (l : ℕ) (c : Chosen) (given : List ℕ) (none_yet : c.ga
           let left : max_tasks - length r.0 ≡ r.2 = omega (arith, ap length r.3, length-append r.0 (replicate r.2 0), length-replicate {A = ℕ} r.2 0) in
           absurd (never r.0 r.1 (plain r.0 r.1 ∙ ap (λ n. r.0 ++ replicate n 0) left ∙ sym r.3))) (found_choice ts l c given))
 
--- ---- by the release
+-- ---- task by task
 
-module _ (r : Release) (c : Chosen) (given : List ℕ) (h : Released r) where
+module _ (ts : Tasks) (l i : ℕ) (c : Chosen) (given : List ℕ) where
   abbrev task : Task
-  task = get_or (tasks_released r) c.task no_task
+  task = get_or ts i no_task
 
   abbrev mask : ℕ
-  mask = get_or given c.task 0
-
-  abbrev found : Led
-  found = record { pattern = c.pattern / 2; gain = c.gain }
+  mask = get_or given i 0
 
   -- no task is left
-  last : (b : Bool) → c.task ≡ r.count → all_zero (drop c.task given) ≡ b → next_choice r c given ≡ cond b (some found) none
+  pub next-last : (b : Bool) → i ≡ length ts → all_zero (drop i given) ≡ b → next_choice ts l i c given ≡ cond b (some (record { pattern = c.pattern / 2; gain = c.gain })) none
   unfolding next_choice
-  last b e z =
-      let all : length (tasks_released r) ≤ c.task = omega (arith, h.size) in
-      rw (drop_of_length-le (tasks_released r) all, z)
+  next-last b e z =
+      let all : length ts ≤ i = omega arith in
+      rw (drop_of_length-le ts all, z)
 
-  pub next-found : c.task ≡ r.count → all_zero (drop c.task given) ≡ true → next_choice r c given ≡ some found
-  next-found e z = last true e z
-
-  pub next-not-zero : c.task ≡ r.count → all_zero (drop c.task given) ≡ false → next_choice r c given ≡ none
-  next-not-zero e z = last false e z
-
-  module _ (lt : c.task < r.count) (size : length given ≡ max_tasks) (few : r.count ≤ max_tasks) where
-    fitting : Bool
-    fitting = fits_task task (eqb (r.label / 2 ^ c.task % 2) 1) c.pattern mask
-
-    next_by : (b : Bool) → fitting ≡ b → next_choice r c given ≡ cond b (next_choice r (chosen_with task c mask) given) none
-    unfolding next_choice fitting
-    next_by b e =
-        let s : suc c.task ≡ c.task + 1 = omega arith in
-        let half : r.label / 2 ^ c.task / 2 ≡ r.label / 2 ^ (c.task + 1) = shr-shr r.label c.task 1 in
-        ap₂ (λ ts g. choice_from ts (r.label / 2 ^ c.task) c g)
-        (drop-cons (tasks_released r) c.task no_task (omega (arith, h.size)) ∙ ap (λ k. task ∷ drop k (tasks_released r)) s)
-        (drop-cons given c.task 0 (omega arith) ∙ ap (λ k. mask ∷ drop k given) s)
-        ∙ ap₂ (λ x l. cond x (choice_from (drop (c.task + 1) (tasks_released r)) l (chosen_with task c mask) (drop (c.task + 1) given)) none) e half
-
-    pub next_fits : fits_task task (eqb (r.label / 2 ^ c.task % 2) 1) c.pattern mask ≡ true → next_choice r c given ≡ next_choice r (chosen_with task c mask) given
-    unfolding fitting
-    next_fits e = next_by true e
-
-    pub next_fails : fits_task task (eqb (r.label / 2 ^ c.task % 2) 1) c.pattern mask ≡ false → next_choice r c given ≡ none
-    unfolding fitting
-    next_fails e = next_by false e
+  -- a mask for the next task
+  pub next_by : (b : Bool) → i < length ts → i < length given → fits_task task (bit l i) c.pattern mask ≡ b
+      → next_choice ts l i c given ≡ cond b (next_choice ts l (i + 1) (chosen_with task c mask) given) none
+  unfolding next_choice
+  next_by b lt inside e =
+      let s : suc i ≡ i + 1 = omega arith in
+      let half : l / 2 ^ i / 2 ≡ l / 2 ^ (i + 1) = shr-shr l i 1 in
+      ap₂ (λ ts g. choice_from ts (l / 2 ^ i) c g)
+      (drop-cons ts i no_task lt ∙ ap (λ k. task ∷ drop k ts) s)
+      (drop-cons given i 0 inside ∙ ap (λ k. mask ∷ drop k given) s)
+      ∙ ap₂ (λ x l. cond x (choice_from (drop (i + 1) ts) l (chosen_with task c mask) (drop (i + 1) given)) none) e half
 
 -- no mask yet
-pub choice_start : (r : Release) (taken : ℕ) (given : List ℕ) → Released r → length given ≡ max_tasks
-    → next_choice r (record { task = 0; pattern = taken; gain = 0 }) given ≡ choice_of (tasks_released r) r.label taken given
+pub choice_start : (ts : Tasks) (l taken : ℕ) (given : List ℕ) → length ts ≤ max_tasks → length given ≡ max_tasks
+    → next_choice ts l 0 (record { pattern = taken; gain = 0 }) given ≡ choice_of ts l taken given
 unfolding next_choice
-choice_start r taken given h size =
-    ap (λ l. choice_from (tasks_released r) l c given) (div-one r.label)
-    ∙ sym (choice_tested (tasks_released r) r.label c given refl size h.tasks.count)
+choice_start ts l taken given few size =
+    ap (λ l. choice_from ts l c given) (div-one l) ∙ sym (choice_tested ts l c given refl size few)
   where
     c : Chosen
-    c = record { task = 0; pattern = taken; gain = 0 }
+    c = record { pattern = taken; gain = 0 }

@@ -1,18 +1,17 @@
 -- A choice of masks for a label, found by its masks.
-use Rattle.std.specs.Prelude.{Bool, true, false, cond, not, ◌&&◌, ◌||◌, List, [], ◌∷◌, ℕ, ◌/◌, ◌%◌, ◌^◌, eqb, ltb, drop}
+use Rattle.std.specs.Prelude as rust
+use Rattle.std.specs.Prelude.{None, Some, ◌*◌, ◌+◌, ◌<◌, ◌≤◌, Bool, true, false, cond, not, ◌&&◌, ◌||◌, List, [], ◌∷◌, ℕ, ◌/◌, ◌%◌, ◌^◌, eqb, ltb, drop}
 use Rattle.std.proofs.Math.Option.{Option, none, some}
-use Rattle.std.specs.Int.Bits.{bit_and}
+use Rattle.std.specs.Int.Bits.{bit_and, bit_or}
 use Rattle.model.specs.Check.{padded}
 use Rattle.model.specs.Graph.{choices, joined, worth}
 use Rattle.model.specs.Lists.{same_numbers, ones}
 use Rattle.model.specs.Masks.{neighbouring}
 use Rattle.model.specs.Plan.{Task}
 use Rattle.policy.specs.View.{Tasks}
-use Rattle.graph.specs.declared.Lead.TheVariants as found
-use Rattle.graph.specs.Outcomes.{chosen_with, tasks_released}
-use Rattle.graph.specs.declared.Release.{Release}
+use Rattle.graph.specs.Outcomes.{pattern_count}
+use Rattle.model.specs.Limits.{max_tasks, max_value}
 use Rattle.graph.specs.declared.Chosen.{Chosen}
-use Rattle.graph.specs.declared.Lead.{Lead}
 
 -- where a choice leads: the pattern, and the clairvoyant's gain
 pub record Led : Type 0 where
@@ -32,18 +31,14 @@ led_by ts taken (some ms) = some (record { pattern = joined taken ms / 2; gain =
 unfoldable pub choice_of : Tasks → ℕ → ℕ → List ℕ → Option Led
 choice_of ts l taken given = led_by ts taken (find_choice given (choices ts l taken))
 
-abbrev pub led_of : Lead → Option Led
-led_of found.None = none
-led_of (found.Some p g) = some (record { pattern = p; gain = g })
+abbrev pub led_of : rust.Option Chosen → Option Led
+led_of None = none
+led_of (Some c) = some (record { pattern = c.pattern; gain = c.gain })
 
--- the gain and the pattern, 0 where there is no choice
-abbrev pub lead_gain : Lead → ℕ
-lead_gain found.None = 0
-lead_gain (found.Some p g) = g
-
-abbrev pub lead_pattern : Lead → ℕ
-lead_pattern found.None = 0
-lead_pattern (found.Some p g) = p
+-- a pattern and a gain within their limits
+pub record LeadFits (c : Chosen) : Type 0 where
+  pub pattern : c.pattern < pattern_count
+  pub gain : c.gain ≤ max_tasks * max_value
 
 -- ---- by a test of each mask
 
@@ -58,12 +53,16 @@ abbrev pub all_zero : List ℕ → Bool
 all_zero [] = true
 all_zero (m ∷ ms) = cond (eqb m 0) (all_zero ms) false
 
+-- the mask m for the next task, t
+abbrev pub chosen_with : Task → Chosen → ℕ → Chosen
+chosen_with t c m = record { pattern = bit_or c.pattern m; gain = c.gain + cond (eqb m 0) 0 t.value }
+
 -- the masks for the next tasks and 0 for those that the plan lacks
 abbrev pub choice_from : Tasks → ℕ → Chosen → List ℕ → Option Led
 choice_from [] l c given = cond (all_zero given) (some (record { pattern = c.pattern / 2; gain = c.gain })) none
 choice_from (t ∷ ts) l c [] = none
 choice_from (t ∷ ts) l c (m ∷ ms) = let later = choice_from ts (l / 2) (chosen_with t c m) ms in cond (fits_task t (eqb (l % 2) 1) c.pattern m) later none
 
--- the same from the next task of a release on
-unfoldable pub next_choice : Release → Chosen → List ℕ → Option Led
-next_choice r c given = choice_from (drop c.task (tasks_released r)) (r.label / 2 ^ c.task) c (drop c.task given)
+-- the same from the task i on
+unfoldable pub next_choice : Tasks → ℕ → ℕ → Chosen → List ℕ → Option Led
+next_choice ts l i c given = choice_from (drop i ts) (l / 2 ^ i) c (drop i given)

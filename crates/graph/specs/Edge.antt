@@ -1,5 +1,6 @@
 -- One edge of a node, by its label and masks.
-use Rattle.std.specs.Prelude.{◌≡◌, false, cond, List, ℕ, ◌*◌, ◌<◌, ◌≤◌}
+use Rattle.std.specs.Prelude as rust
+use Rattle.std.specs.Prelude.{◌≡◌, None, Some, List, ℕ, ◌*◌, ◌<◌, ◌≤◌}
 use Rattle.std.proofs.Math.Option.{Option, none, some}
 use Rattle.model.specs.Check.{find_step}
 use Rattle.model.specs.Graph as model
@@ -26,20 +27,20 @@ abbrev pub end_in : Option model.Edge → Option End
 end_in none = none
 end_in (some e) = some (end_of e)
 
--- the end that the struct stands for, none where no edge is found
-abbrev pub edge_end : Tasks → Edge → Option End
-edge_end ts e = cond e.found (some (record { to = node_of ts e.to; kept = e.kept; ideal = e.ideal })) none
+-- the end that a struct stands for, if there is one
+abbrev pub edge_end : Tasks → rust.Option Edge → Option End
+edge_end ts None = none
+edge_end ts (Some e) = some (record { to = node_of ts e.to; kept = e.kept; ideal = e.ideal })
 
--- no edge, and the node itself
-abbrev pub no_edge : Node → Edge
-no_edge u = record { found = false; to = u; kept = 0; ideal = 0 }
-
--- the edge of the node u with this label and these masks, a node and gains within their limits, and none where there is no edge
-pub record Stepped (next : List ℕ) (r : Rules) (u : Node) (l : ℕ) (ms : List ℕ) (e : Edge) : Type 0 where
-  pub edge : edge_end (tasks_in r) e ≡ end_in (find_step (record { label = l; masks = ms }) (model.edges (plan_by r next max_states) (node_of (tasks_in r) u)))
-  pub absent : e.found ≡ false → e ≡ no_edge u
-  pub cells : Cells (tasks_in r) cell_count e.to.cells
+-- a node and gains within their limits
+pub record EdgeFits (ts : Tasks) (e : Edge) : Type 0 where
+  pub cells : Cells ts cell_count e.to.cells
   pub state : e.to.state < max_states
   pub taken : e.to.taken < mask_count
   pub kept : e.kept ≤ max_value
   pub ideal : e.ideal ≤ max_tasks * max_value
+
+-- the edge of the node u with this label and these masks, within its limits, and none where there is no edge
+pub record Stepped (next : List ℕ) (r : Rules) (u : Node) (l : ℕ) (ms : List ℕ) (o : rust.Option Edge) : Type 0 where
+  pub edge : edge_end (tasks_in r) o ≡ end_in (find_step (record { label = l; masks = ms }) (model.edges (plan_by r next max_states) (node_of (tasks_in r) u)))
+  pub fits : (e : Edge) → o ≡ Some e → EdgeFits (tasks_in r) e

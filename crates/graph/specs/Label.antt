@@ -1,11 +1,17 @@
 -- What a label does at a node: the policy's slot, and the outcomes noted of its choices.
-use Rattle.std.specs.Prelude.{◌≡◌, List, map, ℕ, ◌<◌, ◌≤◌, length}
+use Rattle.std.specs.Prelude as rust
+use Rattle.std.specs.Prelude.{◌≡◌, None, Some, List, map, ℕ, ◌<◌, ◌≤◌, length}
 use Rattle.model.specs.Lists.{up_from}
 use Rattle.policy.specs.View.{tasks_in, Slotted}
 use Rattle.policy.specs.declared.Rules.{Rules}
 use Rattle.graph.specs.Outcomes.{pattern_count, note_room, NotesFree, pattern_in, notes_in, noted_of, nothing_noted}
 use Rattle.node.specs.declared.Node.{Node}
 use Rattle.graph.specs.declared.Noted.{Noted}
+
+-- the pattern that is wanted, `pattern_count` where none is
+abbrev pub wanted_in : rust.Option ℕ → ℕ
+wanted_in None = pattern_count
+wanted_in (Some p) = p
 
 -- the first k patterns in the notes
 abbrev pub order_in : List ℕ → ℕ → List ℕ

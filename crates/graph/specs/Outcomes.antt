@@ -1,18 +1,13 @@
 -- What the choices of masks for a label lead to, and what is noted of them in memory.
 use Rattle.std.specs.Prelude.{◌≡◌, Bool, cond, ◌&&◌, ℕ, ◌+◌, ◌-◌, ◌*◌, ◌/◌, ◌%◌, ◌^◌, ◌<◌, ◌≤◌, leb, ltb, eqb, length, get_or, set, replicate}
 use mathlib.Core.List.{List, [], ◌∷◌, ◌++◌, map, foldl}
-use Rattle.std.specs.Int.Bits.{bit_or}
 use Rattle.model.specs.Bytes.{Only}
 use Rattle.model.specs.Graph.{choices, joined, worth}
-use Rattle.model.specs.Limits.{max_tasks, max_window, max_value}
+use Rattle.model.specs.Limits.{max_tasks, max_window}
 use Rattle.model.specs.Lists.{keep, up_from}
 use Rattle.model.specs.Masks.{mask_count}
-use Rattle.model.specs.Plan.{Task}
 use Rattle.words.specs.Packed.{packed}
-use Rattle.plan.specs.View.{tasks_of}
-use Rattle.policy.specs.View.{Tasks, TasksInRange}
-use Rattle.graph.specs.declared.Release.{Release}
-use Rattle.graph.specs.declared.Chosen.{Chosen}
+use Rattle.policy.specs.View.{Tasks}
 
 -- the patterns of a node: the masks, moved down one place
 abbrev pub pattern_count : ℕ
@@ -132,23 +127,3 @@ pub record Cleared (before after : List ℕ) : Type 0 where
   pub notes : notes_in after 0 ≡ nothing_noted
   pub only : NotesFree before after
   pub room : Room after 0
-
--- ---- a release
-
--- the tasks of a release
-abbrev pub tasks_released : Release → Tasks
-tasks_released r = tasks_of r.tasks r.count
-
-pub record Released (r : Release) : Type 0 where
-  pub tasks : TasksInRange (tasks_released r)
-  pub size : length (tasks_released r) ≡ r.count
-
--- what masks for the first tasks leave
-pub record InBounds (c : Chosen) : Type 0 where
-  pub task : c.task ≤ max_tasks
-  pub pattern : c.pattern < mask_count
-  pub gain : c.gain ≤ c.task * max_value
-
--- the mask m for the next task, t
-abbrev pub chosen_with : Task → Chosen → ℕ → Chosen
-chosen_with t c m = record { task = c.task + 1; pattern = bit_or c.pattern m; gain = c.gain + cond (eqb m 0) 0 t.value }

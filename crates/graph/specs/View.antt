@@ -1,9 +1,8 @@
 -- What a node stands for.
-use Rattle.std.specs.Prelude.{◌≡◌, List, ℕ, ◌^◌, ◌<◌}
-use Rattle.std.proofs.Math.Option.{some}
+use Rattle.std.specs.Prelude.{◌≡◌, List, ℕ}
 use Rattle.model.specs.Graph as model
-use Rattle.model.specs.Plan.{Plan, IsSound, next_in}
-use Rattle.plan.specs.View.{arcs_in, StatesFit}
+use Rattle.model.specs.Plan.{Plan, IsSound}
+use Rattle.plan.specs.View.{arcs_in}
 use Rattle.policy.specs.View.{Tasks, jobs_of, tasks_in, PlanFor}
 use Rattle.policy.specs.declared.Rules.{Rules}
 use Rattle.node.specs.declared.Node.{Node}
@@ -20,11 +19,6 @@ pub record Planned (P : Plan) (r : Rules) (next : List ℕ) : Type 0 where
 -- the plan with these rules, this table and so many states, on which no edge depends
 abbrev pub plan_by : Rules → List ℕ → ℕ → Plan
 plan_by r next states = record { tasks = tasks_in r; policy = r.policy; states = states; arcs = arcs_in next }
-
--- a table of next states for so many tasks: it admits labels of these alone, and leads to states
-pub record TableFits (next : List ℕ) (count : ℕ) : Type 0 where
-  pub states : StatesFit next
-  pub labels : (s l t : ℕ) → next_in (arcs_in next) s l ≡ some t → l < 2 ^ count
 
 -- there is one
 pub record Planning (r : Rules) (next : List ℕ) : Type 0 where

@@ -1,31 +1,32 @@
 // The graph of a plan: where a label leads from a node.
 #![tactic(auto)]
 
-ghost use Rattle.std.specs.Prelude.{◌≡◌, cond, [], ◌∷◌, ℕ, suc, ◌+◌, ◌-◌, ◌*◌, ◌/◌, ◌%◌, ◌^◌, ◌≤◌, ◌<◌, eqb, length, get_or, drop, replicate};
-ghost use Rattle.model.specs.Bytes.{part};
+ghost use Rattle.std.specs.Prelude.{◌≡◌, cond, [], ◌∷◌, ℕ, suc, Some, ◌+◌, ◌-◌, ◌*◌, ◌/◌, ◌%◌, ◌^◌, ◌≤◌, ◌<◌, eqb, length, get_or, drop, replicate};
 ghost use Rattle.model.specs.Limits.{max_tasks, max_window, max_value, max_states};
 ghost use Rattle.model.specs.Lists.{any, up_from, bit};
 ghost use Rattle.model.specs.Masks.{mask_count, mask_table};
-ghost use Rattle.model.specs.Slot.{no_task};
 ghost use Rattle.words.specs.Packed.{field_base, unpacked};
-ghost use Rattle.plan.specs.View.{task_view};
+ghost use Rattle.plan.specs.View.{task_view, TableFits};
 ghost use Rattle.masks.specs.Clear.{Lists};
-ghost use Rattle.policy.specs.View.{cell_count, Cells, tasks_in, InRange, Ruled};
-ghost use Rattle.graph.specs.Outcomes.{pattern_count, outcomes, outcome_in, lists_at, list_place, note_room, word_base, masks_in, pattern_in, notes_in, with_masks, Room, Noting, Cleared, tasks_released, Released, InBounds, chosen_with};
-ghost use Rattle.graph.specs.Offers.{span_start, span_end, task_count, wanted_in, masks_offered, OffersFit, OffersOf, offered, offered_with, Carries, Listed};
-ghost use Rattle.graph.specs.Choice.{choice_of, led_of, lead_gain, lead_pattern, fits_task, all_zero, next_choice};
-ghost use Rattle.graph.specs.Edge.{no_edge, Stepped};
-ghost use Rattle.graph.specs.Label.{Readable, Reaches};
-ghost use Rattle.graph.specs.View.{TableFits};
+ghost use Rattle.policy.specs.View.{cell_count, Cells, tasks_in, InRange};
+ghost use Rattle.graph.specs.Outcomes.{pattern_count, outcomes, outcome_in, lists_at, list_place, note_room, masks_in, pattern_in, notes_in, with_masks, Room, Noting, Cleared};
+ghost use Rattle.graph.specs.Offers.{span_of, masks_offered, OffersFit, OffersOf, offered, Carries};
+ghost use Rattle.graph.specs.Choice.{chosen_with, choice_of, led_of, LeadFits, fits_task, all_zero};
+ghost use Rattle.graph.specs.Edge.{Stepped};
+ghost use Rattle.graph.specs.Label.{wanted_in, Readable, Reaches};
+ghost use Rattle.graph.specs.declared.Chosen.{Chosen};
+ghost use Rattle.graph.specs.declared.Span.TheVariants.{Runs};
 
+use machine::Machine;
 use node::Node;
 use plan::Task;
-use policy::{Done, Rules};
+use policy::Done;
 
 const MAX_TASKS: usize = Node::MAX_TASKS;
 
 // Notes, numbers in one array: for each pattern the score of its best outcome, a gain and 1, 0 for no outcome; the packed masks of
-// the best outcome of one pattern, in two numbers; the patterns in the order of their discovery; and a list of masks for each task.
+// the best outcome of one pattern, in two numbers; the patterns in the order of their discovery; and a list of masks for each task. They are
+// one array, and no struct of arrays, since the crates above lend them on as one and say of it what is free (`NotesFree`).
 const MASKS_AT: usize = Node::PATTERNS;
 
 const ORDER_AT: usize = MASKS_AT + 2;
@@ -34,50 +35,31 @@ const LISTS_AT: usize = ORDER_AT + Node::PATTERNS;
 
 pub const NOTE_ROOM: usize = LISTS_AT + MAX_TASKS * masks::COUNT;
 
-// The masks of no pattern are wanted.
-pub const NO_PATTERN: u16 = Node::PATTERNS as u16;
-
-// What a label offers, numbers in one array: for each task where its masks start in the table and where they end, or, of a locked one, its
-// first run and how many there are; its value; and 1 if it is locked, 0 if not. Then the number of tasks, and the pattern whose masks are
-// wanted. A task that is not released has no masks.
-const ENDS: usize = MAX_TASKS;
-
-const VALUES: usize = 2 * MAX_TASKS;
-
-const LOCKS: usize = 3 * MAX_TASKS;
-
-const TASKS: usize = 4 * MAX_TASKS;
-
-const WANTED: usize = TASKS + 1;
-
-const OFFERS: usize = WANTED + 1;
-
 // A packed mask takes sixteen bits.
 const MASK_BASE: u64 = 65536;
 
 const WORD: u64 = 4294967296;
 
-// The tasks of a plan, and a label.
+// Masks for a task: those of the table from `at` up to `end`, or so many runs from the first up, each twice the one before.
 #[derive(Clone, Copy)]
-pub struct Release {
-    pub tasks: [Task; MAX_TASKS],
-    pub count: usize,
-    pub label: u8,
+enum Span {
+    Table { at: usize, end: usize },
+    Runs { first: u32, count: usize },
 }
 
-// The masks of the table from `at` up to `end`, or, of a locked task, `end` runs from `at` up.
+// What a label offers a task, and the task's value.
 #[derive(Clone, Copy)]
-struct Span {
-    at: usize,
-    end: usize,
+struct Offer {
+    span: Span,
+    value: u32,
 }
 
-fn task_at(release: Release, i: usize) -> Task
-    requires { Released release × (i < release.count) }
-    ensures { task_view result ≡ get_or (tasks_released release) i no_task }
-{
-    let tasks = release.tasks;
-    tasks[i]
+// What a label offers each task of a plan, and the pattern whose masks are wanted, if one is.
+#[derive(Clone, Copy)]
+struct Offers {
+    offers: [Offer; MAX_TASKS],
+    count: usize,
+    wanted: Option<u16>,
 }
 
 fn is_released(label: u8, i: usize) -> bool
@@ -90,61 +72,64 @@ fn is_released(label: u8, i: usize) -> bool
 // The runs of a task's work within its window.
 fn runs_of(task: Task) -> Span
     requires { InRange (task_view task) }
-    ensures { (result.at ≡ 2 ^ task.work - 1) × (result.end ≡ suc (task.window - task.work)) }
+    ensures { result ≡ Runs (2 ^ task.work - 1) (suc (task.window - task.work)) }
 {
-    let work = task.work as usize;
-    let window = task.window as usize;
-    let at = (1 << work) - 1;
-    let end = window - work + 1;
-    Span { at, end }
+    let work = usize::from(task.work);
+    let window = usize::from(task.window);
+    let first = (1u32 << work) - 1;
+    let count = window - work + 1;
+    Span::Runs { first, count }
 }
 
 // The masks of a task's work within its window: where they stand in the table, or its runs; none if it is not released.
 fn span_of(task: Task, released: bool) -> Span
     requires { InRange (task_view task) }
-    ensures { (result.at ≡ span_start (task_view task) released) × (result.end ≡ span_end (task_view task) released) }
+    ensures { result ≡ span_of (task_view task) released }
 {
     if !released {
-        return Span { at: 0, end: 0 };
+        return Span::Table { at: 0, end: 0 };
     }
     if task.locked {
         return runs_of(task);
     }
-    let work = task.work as usize;
-    let window = task.window as usize;
+    let work = usize::from(task.work);
+    let window = usize::from(task.window);
     let at = masks::group_start(work);
     let end = masks::group_end(work, window);
-    Span { at, end }
+    Span::Table { at, end }
 }
 
 // What a label offers.
-fn offers_of(release: Release, wanted: u16) -> [usize; OFFERS]
-    requires { Released release }
-    ensures { OffersOf release wanted result }
+fn offers_of(machine: &Machine, label: u8, wanted: Option<u16>) -> Offers
+    ensures { OffersOf (tasks_in machine.now.rules) label wanted result }
 {
-    let count = release.count;
-    let mut offers = [0usize; OFFERS];
-    offers[TASKS] = count;
-    offers[WANTED] = wanted as usize;
-    let mut i = 0;
-    while i < count {
-        let task = task_at(release, i);
-        let span = span_of(task, is_released(release.label, i));
-        offers[i] = span.at;
-        offers[ENDS + i] = span.end;
-        offers[VALUES + i] = task.value as usize;
-        offers[LOCKS + i] = task.locked as usize;
-        i += 1;
+    let count = machine.rules.tasks.count;
+    let none = Offer {
+        span: Span::Table { at: 0, end: 0 },
+        value: 0,
+    };
+    let mut offers = [none; MAX_TASKS];
+    for i in 0..count {
+        let task = machine.rules.tasks.get(i);
+        let span = span_of(task, is_released(label, i));
+        offers[i] = Offer {
+            span,
+            value: u32::from(task.value),
+        };
     }
-    offers
+    Offers {
+        offers,
+        count,
+        wanted,
+    }
 }
 
 // Writes the masks of an outcome, if its pattern is wanted.
-fn put_masks(notes: &mut [u32; NOTE_ROOM], pattern: usize, wanted: usize, masks: u64)
-    requires { note_room ≤ length notes.old }
-    ensures { notes.new ≡ with_masks (eqb pattern wanted) masks notes.old }
+fn put_masks(notes: &mut [u32; NOTE_ROOM], pattern: u16, wanted: Option<u16>, masks: u64)
+    requires { pattern < pattern_count }
+    ensures { notes.new ≡ with_masks (eqb pattern (wanted_in wanted)) masks notes.old }
 {
-    if pattern != wanted {
+    if wanted != Some(pattern) {
         return;
     }
     notes[MASKS_AT] = (masks / WORD) as u32;
@@ -155,19 +140,20 @@ fn put_masks(notes: &mut [u32; NOTE_ROOM], pattern: usize, wanted: usize, masks:
 fn note(
     notes: &mut [u32; NOTE_ROOM],
     count: usize,
-    wanted: usize,
-    pattern: usize,
+    wanted: Option<u16>,
+    pattern: u16,
     gain: u32,
     masks: u64,
 ) -> usize
     requires { Room notes.old count × (pattern < pattern_count) × (gain ≤ max_tasks * max_value) }
-    ensures { Noting wanted (outcome_in pattern gain masks ∷ []) note_room notes.old count notes.new result }
+    ensures { Noting (wanted_in wanted) (outcome_in pattern gain masks ∷ []) note_room notes.old count notes.new result }
 {
-    let score = notes[pattern];
+    let at = pattern as usize;
+    let score = notes[at];
     if gain < score {
         return count;
     }
-    notes[pattern] = gain + 1;
+    notes[at] = gain + 1;
     put_masks(notes, pattern, wanted, masks);
     if score != 0 {
         return count;
@@ -179,36 +165,26 @@ fn note(
 // Lists the masks that a label offers a task, clear of a pattern, and gives the place after them.
 fn list_masks(
     table: &[u16; masks::COUNT],
-    offers: &[usize; OFFERS],
+    offers: &Offers,
     task: usize,
     pattern: u32,
     notes: &mut [u32; NOTE_ROOM],
     from: usize,
 ) -> usize
-    requires { (table.now ≡ mask_table) × OffersFit offers.now × (task < task_count offers.now) × (from + mask_count ≤ length notes.old) }
+    requires { (table.now ≡ mask_table) × OffersFit offers.now × (task < offers.now.count) × (from + mask_count ≤ length notes.old) }
     ensures { Lists (masks_offered offers.now task pattern) mask_count from notes.old notes.new result }
 {
-    let at = offers[task];
-    let end = offers[ENDS + task];
-    if offers[LOCKS + task] == 0 {
-        return masks::list_clear(table, at, end, pattern, notes, from);
+    match offers.offers[task].span {
+        Span::Table { at, end } => masks::list_clear(table, at, end, pattern, notes, from),
+        Span::Runs { first, count } => masks::list_runs(first, count, pattern, notes, from),
     }
-    masks::list_runs(at as u32, end, pattern, notes, from)
-}
-
-// A listed mask, at a wider type.
-fn wide(m: u32) -> u64
-    ensures { (result ≡ m) × (result < word_base) }
-{
-    m as u64
 }
 
 // Notes the outcomes of the choices for the tasks from one on, with the pattern, the gain and the masks of those before it: first
-// with no mask for it, then with the masks that the label offers it. The pattern moves down one place once all masks have joined it.
-#[cycle(note_masks_note_task)]
+// with no mask for it, then with each mask that the label offers it. The pattern moves down one place once all masks have joined it.
 fn note_task(
     table: &[u16; masks::COUNT],
-    offers: &[usize; OFFERS],
+    offers: &Offers,
     task: usize,
     pattern: u32,
     gain: u32,
@@ -216,65 +192,31 @@ fn note_task(
     notes: &mut [u32; NOTE_ROOM],
     count: usize,
 ) -> usize
-    requires { (table.now ≡ mask_table) × OffersFit offers.now × Carries offers.now task pattern gain masks 1 × Room notes.old count }
-    ensures { Noting (wanted_in offers.now) (offered offers.now (task_count offers.now - task) task pattern gain masks) (list_place task) notes.old count notes.new result }
+    requires { (table.now ≡ mask_table) × OffersFit offers.now × Carries offers.now task pattern gain masks × Room notes.old count }
+    ensures { Noting (wanted_in offers.now.wanted) (offered offers.now (offers.now.count - task) task pattern gain masks) (list_place task) notes.old count notes.new result }
 {
-    if task == offers[TASKS] {
+    if task == offers.count {
         return note(
             notes,
             count,
-            offers[WANTED],
-            (pattern >> 1) as usize,
+            offers.wanted,
+            (pattern >> 1) as u16,
             gain,
             masks,
         );
     }
     let next = task + 1;
     let moved = masks * MASK_BASE;
-    let idle = note_task(table, offers, next, pattern, gain, moved, notes, count);
+    let mut known = note_task(table, offers, next, pattern, gain, moved, notes, count);
     let from = LISTS_AT + task * masks::COUNT;
     let to = list_masks(table, offers, task, pattern, notes, from);
-    let more = gain + offers[VALUES + task] as u32;
-    note_masks(
-        table, offers, next, pattern, more, moved, notes, idle, from, to,
-    )
-}
-
-// Notes the outcomes of the choices with a listed mask, from `at` up to `end`, for the task before.
-#[cycle(note_masks_note_task)]
-fn note_masks(
-    table: &[u16; masks::COUNT],
-    offers: &[usize; OFFERS],
-    task: usize,
-    pattern: u32,
-    gain: u32,
-    masks: u64,
-    notes: &mut [u32; NOTE_ROOM],
-    count: usize,
-    at: usize,
-    end: usize,
-) -> usize
-    requires { (table.now ≡ mask_table) × OffersFit offers.now × Carries offers.now task pattern gain masks field_base × Room notes.old count × Listed notes.old task at end }
-    ensures { Noting (wanted_in offers.now) (offered_with offers.now (task_count offers.now - task) task pattern gain masks (part notes.old at (end - at))) (list_place task) notes.old count notes.new result }
-{
-    if at == end {
-        return count;
+    let more = gain + offers.offers[task].value;
+    for at in from..to {
+        let m = notes[at];
+        let joined = moved + u64::from(m);
+        known = note_task(table, offers, next, pattern | m, more, joined, notes, known);
     }
-    let m = notes[at];
-    let joined = masks + wide(m);
-    let after = note_task(table, offers, task, pattern | m, gain, joined, notes, count);
-    note_masks(
-        table,
-        offers,
-        task,
-        pattern,
-        gain,
-        masks,
-        notes,
-        after,
-        at + 1,
-        end,
-    )
+    known
 }
 
 // Room for notes.
@@ -286,19 +228,14 @@ pub fn note_space() -> [u32; NOTE_ROOM]
 
 // Clears the scores and the masks.
 fn clear_notes(notes: &mut [u32; NOTE_ROOM])
-    requires { note_room ≤ length notes.old }
     ensures { Cleared notes.old notes.new }
 {
-    let mut i = 0;
-    while i < ORDER_AT {
-        notes[i] = 0;
-        i += 1;
-    }
+    notes[..ORDER_AT].fill(0);
 }
 
 // The score noted for a pattern.
 pub fn best_score(notes: &[u32; NOTE_ROOM], pattern: usize) -> u32
-    requires { (note_room ≤ length notes.now) × (pattern < pattern_count) }
+    requires { (pattern < pattern_count) }
     ensures { (count : ℕ) → result ≡ get_or (notes_in notes.now count).scores pattern 0 }
 {
     notes[pattern]
@@ -306,10 +243,10 @@ pub fn best_score(notes: &[u32; NOTE_ROOM], pattern: usize) -> u32
 
 // The masks noted for the wanted pattern, by a plan of so many tasks: 0 for a task that it lacks.
 pub fn best_masks(notes: &[u32; NOTE_ROOM], tasks: usize) -> u64
-    requires { (note_room ≤ length notes.now) × (1 ≤ tasks) × (tasks ≤ max_tasks) × (masks_in notes.now < field_base ^ tasks) }
+    requires { (1 ≤ tasks) × (tasks ≤ max_tasks) × (masks_in notes.now < field_base ^ tasks) }
     ensures { result ≡ masks_in notes.now * field_base ^ (max_tasks - tasks) }
 {
-    let masks = wide(notes[MASKS_AT]) * WORD + wide(notes[MASKS_AT + 1]);
+    let masks = u64::from(notes[MASKS_AT]) * WORD + u64::from(notes[MASKS_AT + 1]);
     masks << (16 * (MAX_TASKS - tasks))
 }
 
@@ -322,12 +259,18 @@ pub fn noted_pattern(notes: &[u32; NOTE_ROOM], count: usize, k: usize) -> u16
 }
 
 // Notes the outcomes of a label's choices from a pattern of taken slots; so many patterns are noted.
-fn note_choices(release: Release, taken: u16, wanted: u16, notes: &mut [u32; NOTE_ROOM]) -> usize
-    requires { Released release × (taken < mask_count) × Room notes.old 0 }
-    ensures { Noting wanted (outcomes (tasks_released release) release.label taken) lists_at notes.old 0 notes.new result }
+fn note_choices(
+    machine: &Machine,
+    taken: u16,
+    label: u8,
+    wanted: Option<u16>,
+    notes: &mut [u32; NOTE_ROOM],
+) -> usize
+    requires { (taken < mask_count) × Room notes.old 0 }
+    ensures { Noting (wanted_in wanted) (outcomes (tasks_in machine.now.rules) label taken) lists_at notes.old 0 notes.new result }
 {
     let table = masks::table();
-    let offers = offers_of(release, wanted);
+    let offers = offers_of(machine, label, wanted);
     note_task(&table, &offers, 0, taken as u32, 0, 0, notes, 0)
 }
 
@@ -338,41 +281,26 @@ pub struct Noted {
     pub count: usize,
 }
 
-// Notes where the label's choices lead from a node, beside the policy's slot, with the masks of one pattern.
+// Notes where the label's choices lead from a node, beside the policy's slot, with the masks of the wanted pattern, if one is.
 pub fn reach(
-    rules: Rules,
-    node: Node,
+    machine: &Machine,
+    node: &Node,
     label: u8,
-    wanted: u16,
+    wanted: Option<u16>,
     notes: &mut [u32; NOTE_ROOM],
 ) -> Noted
-    requires { Ruled rules × Cells (tasks_in rules) cell_count node.cells × (node.taken < mask_count) × (note_room ≤ length notes.old) }
-    ensures { Reaches rules node label wanted notes.old notes.new result }
+    requires { Cells (tasks_in machine.now.rules) cell_count node.now.cells × (node.now.taken < mask_count) }
+    ensures { Reaches machine.now.rules node.now label (wanted_in wanted) notes.old notes.new result }
 {
-    let cells = node.cells;
-    let done = policy::slot(rules, cells, label);
+    let done = policy::slot(&machine.rules, &node.cells, label);
     clear_notes(notes);
-    let tasks = rules.tasks;
-    let release = Release {
-        tasks,
-        count: rules.count,
-        label,
-    };
-    let count = note_choices(release, node.taken, wanted, notes);
+    let count = note_choices(machine, node.taken, label, wanted, notes);
     Noted { done, count }
 }
 
-// Where a choice leads, if there is one: the pattern, and the gain.
-#[derive(Clone, Copy)]
-pub enum Lead {
-    None,
-    Some(u16, u32),
-}
-
-// Masks for the tasks before `task`: the pattern and the gain with them.
+// A pattern, and the gain with it: of masks for the first tasks, or where a choice leads.
 #[derive(Clone, Copy)]
 struct Chosen {
-    task: usize,
     pattern: u16,
     gain: u32,
 }
@@ -384,18 +312,16 @@ fn worth(task: Task, m: u16) -> u32
     if m == 0 {
         return 0;
     }
-    task.value as u32
+    u32::from(task.value)
 }
 
 // A mask for the next task joins.
 fn with_mask(chosen: Chosen, task: Task, m: u16) -> Chosen
-    requires { InBounds chosen × (chosen.task < max_tasks) × (task.value ≤ max_value) × (m < mask_count) }
-    ensures { (result ≡ chosen_with (task_view task) chosen m) × InBounds result }
+    requires { (chosen.gain ≤ (max_tasks - 1) * max_value) × (task.value ≤ max_value) }
+    ensures { result ≡ chosen_with (task_view task) chosen m }
 {
-    let next = chosen.task + 1;
     let gain = chosen.gain + worth(task, m);
     Chosen {
-        task: next,
         pattern: chosen.pattern | m,
         gain,
     }
@@ -403,16 +329,15 @@ fn with_mask(chosen: Chosen, task: Task, m: u16) -> Chosen
 
 // Whether a mask is a run of neighbouring bits, moved up by fewer than so many places.
 fn is_run(m: u32, run: u32, places: usize) -> bool
-    requires { run * 2 ^ places < 2 ^ 32 }
+    requires { (run * 2 ^ places < 2 ^ 32) × (places ≤ 32) }
     ensures { result ≡ any (λ k. eqb m (run * 2 ^ k)) (up_from 0 places) }
 {
-    if places == 0 {
-        return false;
+    for k in 0..places {
+        if m == run << k {
+            return true;
+        }
     }
-    if m == run {
-        return true;
-    }
-    is_run(m, run * 2, places - 1)
+    false
 }
 
 // Whether a mask is one for a task: 0, or, if the task is released, ones for its work within its
@@ -457,110 +382,69 @@ fn are_zero(masks: u64, from: usize) -> bool
     requires { from ≤ max_tasks }
     ensures { result ≡ all_zero (drop from (unpacked masks)) }
 {
-    if from == MAX_TASKS {
-        return true;
-    }
-    if mask_at(masks, from) != 0 {
-        return false;
-    }
-    are_zero(masks, from + 1)
-}
-
-// Where the given masks, packed, for the tasks from the next on lead.
-fn choice_from(release: Release, chosen: Chosen, masks: u64) -> Lead
-    requires { Released release × InBounds chosen × (chosen.task ≤ release.count) }
-    ensures { (led_of result ≡ next_choice release chosen (unpacked masks)) × (lead_gain result ≤ max_tasks * max_value) × (lead_pattern result < pattern_count) }
-{
-    let i = chosen.task;
-    if i == release.count {
-        if are_zero(masks, i) {
-            return Lead::Some(chosen.pattern >> 1, chosen.gain);
+    for i in from..MAX_TASKS {
+        if mask_at(masks, i) != 0 {
+            return false;
         }
-        return Lead::None;
     }
-    let task = task_at(release, i);
-    let released = is_released(release.label, i);
-    let m = mask_at(masks, i);
-    if !fits(task, released, chosen.pattern, m) {
-        return Lead::None;
-    }
-    let joined = with_mask(chosen, task, m);
-    choice_from(release, joined, masks)
+    true
 }
 
-// Where the label's choice with the given masks leads.
-fn choice(release: Release, taken: u16, masks: u64) -> Lead
-    requires { Released release × (taken < mask_count) }
-    ensures { (led_of result ≡ choice_of (tasks_released release) release.label taken (unpacked masks)) × (lead_gain result ≤ max_tasks * max_value) × (lead_pattern result < pattern_count) }
+// Where the label's choice with the given masks, packed, leads, if there is one.
+fn choice(machine: &Machine, taken: u16, label: u8, masks: u64) -> Option<Chosen>
+    requires { taken < mask_count }
+    ensures led { led_of result ≡ choice_of (tasks_in machine.now.rules) label taken (unpacked masks) }
+    ensures fits { (c : Chosen) → result ≡ Some c → LeadFits c }
 {
-    let chosen = Chosen {
-        task: 0,
+    let count = machine.rules.tasks.count;
+    let mut chosen = Chosen {
         pattern: taken,
         gain: 0,
     };
-    choice_from(release, chosen, masks)
+    for i in 0..count {
+        let task = machine.rules.tasks.get(i);
+        let released = is_released(label, i);
+        let m = mask_at(masks, i);
+        if !fits(task, released, chosen.pattern, m) {
+            return None;
+        }
+        chosen = with_mask(chosen, task, m);
+    }
+    if !are_zero(masks, count) {
+        return None;
+    }
+    Some(Chosen {
+        pattern: chosen.pattern >> 1,
+        gain: chosen.gain,
+    })
 }
 
-// The same by the rules.
-fn choice_at(rules: Rules, taken: u16, label: u8, masks: u64) -> Lead
-    requires { Ruled rules × (taken < mask_count) }
-    ensures { (led_of result ≡ choice_of (tasks_in rules) label taken (unpacked masks)) × (lead_gain result ≤ max_tasks * max_value) × (lead_pattern result < pattern_count) }
-{
-    let tasks = rules.tasks;
-    let release = Release {
-        tasks,
-        count: rules.count,
-        label,
-    };
-    choice(release, taken, masks)
-}
-
-// An edge, if there is one: where it leads and both gains.
+// An edge: where it leads, and both gains.
 #[derive(Clone, Copy)]
 pub struct Edge {
-    pub found: bool,
     pub to: Node,
     pub kept: u16,
     pub ideal: u32,
 }
 
-fn no_edge(node: Node) -> Edge
-    ensures { result ≡ no_edge node }
+// The edge of a node with a label and packed masks, if there is one. What is asked of the node goes by the plan's tasks, so no type of it says that.
+pub fn edge_by(machine: &Machine, node: &Node, label: u8, masks: u64) -> Option<Edge>
+    requires table { TableFits machine.now.next machine.now.rules.tasks.count }
+    requires node { Cells (tasks_in machine.now.rules) cell_count node.now.cells × (node.now.state < max_states) × (node.now.taken < mask_count) }
+    ensures { Stepped machine.now.next machine.now.rules node.now label (unpacked masks) result }
 {
-    Edge {
-        found: false,
-        to: node,
-        kept: 0,
-        ideal: 0,
-    }
-}
-
-// The edge of a node with a label and packed masks.
-pub fn edge_by(next: &[u8; plan::PAIRS], rules: Rules, node: Node, label: u8, masks: u64) -> Edge
-    requires { Ruled rules × Cells (tasks_in rules) cell_count node.cells × TableFits next.now rules.count × (node.state < max_states) × (node.taken < mask_count) }
-    ensures { Stepped next.now rules node label (unpacked masks) result }
-{
-    let entry = plan::next_state(next, node.state, label);
-    if entry == 0 {
-        return no_edge(node);
-    }
-    let after = entry - 1;
-    let found = choice_at(rules, node.taken, label, masks);
-    let Lead::Some(pattern, gain) = found else {
-        return no_edge(node);
-    };
-    let before = node.cells;
-    let done = policy::slot(rules, before, label);
+    let state = machine.next(node.state, label)?;
+    let lead = choice(machine, node.taken, label, masks)?;
+    let done = policy::slot(&machine.rules, &node.cells, label);
     let cells = done.cells;
     let to = Node {
         cells,
-        taken: pattern,
-        state: after,
+        taken: lead.pattern,
+        state,
     };
-    Edge {
-        found: true,
+    Some(Edge {
         to,
         kept: done.gain,
-        ideal: gain,
-    }
+        ideal: lead.gain,
+    })
 }

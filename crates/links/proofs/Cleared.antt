@@ -11,7 +11,7 @@ use Rattle.model.specs.Bytes.{number, signed, part, overwrite}
 use Rattle.model.specs.Limits.{max_nodes}
 use Rattle.words.proofs.Memory.{overwrite-inside}
 use Rattle.store.proofs.Tables.{zero-entry}
-use Rattle.links.specs.Links.{link_bytes, links_at, links_end, link_in, no_link, start_link, Puts, Begins, links_size}
+use Rattle.links.specs.Links.{link_bytes, links_at, links_end, link_in, mark_of, no_link, start_link, Puts, Begins, links_size}
 use Rattle.words.proofs.Free.{only_trans}
 use Rattle.words.proofs.Free.{overwrite-only}
 
@@ -40,7 +40,7 @@ module _ (m : List ℕ) (room : links_end ≤ length m) where
         distance = signed (zero-part (link_bytes * x) 8 (omega arith) i);
         parent = (ap (λ (a : ℕ). number (part cleared a 2)) (add_assoc links_at (link_bytes * x) 8) ∙ zero-part (link_bytes * x + 8) 2 (omega arith)) i;
         label = (ap (λ (a : ℕ). get_or cleared a 0) (add_assoc links_at (link_bytes * x) 10) ∙ zero-byte (link_bytes * x + 10) (omega arith)) i;
-        mark = (ap (λ (a : ℕ). get_or cleared a 0) (add_assoc links_at (link_bytes * x) 11) ∙ zero-byte (link_bytes * x + 11) (omega arith)) i;
+        mark = mark_of ((ap (λ (a : ℕ). get_or cleared a 0) (add_assoc links_at (link_bytes * x) 11) ∙ zero-byte (link_bytes * x + 11) (omega arith)) i);
       }
 
   -- and then the start node's is written

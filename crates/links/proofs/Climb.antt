@@ -16,6 +16,7 @@ use borrow.Author.Tests.{eq-eqb, ne_eqb}
 use Rattle.links.specs.declared.Taken.{Taken}
 use Rattle.words.proofs.Free.{only_refl, only_trans}
 use Rattle.model.specs.Bytes.{Only}
+use Rattle.links.proofs.Written.{only-links}
 use Rattle.links.specs.Links.{steps_at, link_in, taken_in, state_in, taken_of, PutsStep, Climbs, Closes, steps_size}
 
 -- ---- the way up
@@ -122,3 +123,18 @@ module _ {before : List ℕ} {u j : ℕ} where
             (ap (taken_in m') (zero-add j) ∙ p.steps j h ∙ ap (λ b. cond b last (taken_in m j)) (eq-eqb j j refl));
         only = only_trans t.only p.only;
       }
+
+-- every node on the way is one of the first, and its link stands as it did
+module _ {before : List ℕ} {u j : ℕ} (k : Climbs before u) (way : Before (state_in before).parent 0 j u) {m : List ℕ} {at left : ℕ}
+    (t : Trailing before u j m at left) where
+  pub trailing_below : at < max_nodes
+  trailing_below = subst (λ (x : ℕ). x < max_nodes) (sym t.place) (climbs_below k (j - left) (λ i l. way i (omega arith)))
+
+  pub trailing_above : 0 < left → (link_in before at).parent < max_nodes
+  trailing_above some =
+      let up = (state_in before).parent in
+      subst (λ (x : ℕ). x < max_nodes) (above-next up (j - left) u ∙ ap up (sym t.place))
+      (climbs_below k (suc (j - left)) (λ i l. way i (omega (arith, t.most))))
+
+  pub trailing_same : link_in m at ≡ link_in before at
+  trailing_same = only-links t.only at trailing_below

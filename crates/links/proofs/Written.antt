@@ -1,5 +1,5 @@
 -- What a link or a step that is written leaves in memory. Assumes nothing.
-use mathlib.Core.Path.{◌≡◌, sym, ap, ap₂, subst, ◌∙◌}
+use mathlib.Core.Path.{◌≡◌, refl, sym, ap, ap₂, subst, ◌∙◌}
 use mathlib.Core.Bool.{cond}
 use mathlib.Core.Logic.{◌⊎◌, inl, inr, ⊎_map}
 use mathlib.Core.List.{List, [], ◌∷◌, ◌++◌, append_assoc}
@@ -19,8 +19,10 @@ use Rattle.words.proofs.Fields.{field-read}
 use Rattle.words.proofs.Free.{only_part, overwrite-only, overwrite-within}
 use Rattle.words.proofs.Memory.{overwrite-one, overwrite-inside, overwrite_outside, overwrite_frame, overwrite_join, overwrite-more, part_skip, get_or_skip}
 use Rattle.words.proofs.Numbers.{bytes-length}
-use Rattle.links.specs.Links.{link_bytes, taken_bytes, links_at, steps_at, links_end, link_place, link_in, step_place, taken_in, marked, Puts, PutsStep, links_size, steps_size}
+use Rattle.links.specs.Links.{link_bytes, taken_bytes, links_at, steps_at, links_end, link_place, link_in, step_place, taken_in, byte_of, mark_of, marked, Puts, PutsStep, links_size, steps_size}
 use Rattle.links.specs.declared.Link.{Link}
+use Rattle.links.specs.declared.Mark.{Mark}
+use Rattle.links.specs.declared.Mark.TheVariants.{Unknown, Waiting, Tried}
 use Rattle.links.specs.declared.Taken.{Taken}
 
 -- a table with another entry at v, where it stands there and at no other place
@@ -35,13 +37,19 @@ put_one after before v a same x other = by (ℕ_discrete x v) (dec_lt x v)
 
 -- ---- a link
 
+-- the mark of a mark's byte
+mark-back : (k : Mark) → mark_of (byte_of k) ≡ k
+mark-back Unknown = refl
+mark-back Waiting = refl
+mark-back Tried = refl
+
 -- the bytes of a link
 abbrev pub bytes_of : Link → List ℕ
-bytes_of l = bytes 8 (complement l.distance) ++ bytes 2 l.parent ++ (l.label ∷ l.mark ∷ [])
+bytes_of l = bytes 8 (complement l.distance) ++ bytes 2 l.parent ++ (l.label ∷ byte_of l.mark ∷ [])
 
 bytes_of-length : (l : Link) → length (bytes_of l) ≡ link_bytes
 bytes_of-length l =
-    length-append (bytes 8 (complement l.distance) ++ bytes 2 l.parent) (l.label ∷ l.mark ∷ [])
+    length-append (bytes 8 (complement l.distance) ++ bytes 2 l.parent) (l.label ∷ byte_of l.mark ∷ [])
     ∙ ap (λ (n : ℕ). n + 2)
     (length-append (bytes 8 (complement l.distance)) (bytes 2 l.parent) ∙ ap₂ (λ (i j : ℕ). i + j) (bytes-length 8 _) (bytes-length 2 _))
 
@@ -50,10 +58,10 @@ module _ (l : Link) (signs : mag l.distance < 2 ^ 63) (low : l.parent < 256 ^ 2)
   first = bytes 8 (complement l.distance)
 
   abbrev rest : List ℕ
-  rest = bytes 2 l.parent ++ (l.label ∷ l.mark ∷ [])
+  rest = bytes 2 l.parent ++ (l.label ∷ byte_of l.mark ∷ [])
 
   abbrev apart : bytes_of l ≡ first ++ rest
-  apart = append_assoc first (bytes 2 l.parent) (l.label ∷ l.mark ∷ [])
+  apart = append_assoc first (bytes 2 l.parent) (l.label ∷ byte_of l.mark ∷ [])
 
   distance_back : signed (number (part (bytes_of l) 0 8)) ≡ l.distance
   distance_back =
@@ -63,12 +71,12 @@ module _ (l : Link) (signs : mag l.distance < 2 ^ 63) (low : l.parent < 256 ^ 2)
   parent-back : number (part (bytes_of l) (8 + 0) 2) ≡ l.parent
   parent-back =
       ap (λ bs. number (part bs (8 + 0) 2)) apart ∙ ap number (part_skip first rest 8 0 2 (bytes-length 8 _))
-      ∙ field-read 2 l.parent (l.label ∷ l.mark ∷ []) low
+      ∙ field-read 2 l.parent (l.label ∷ byte_of l.mark ∷ []) low
 
-  tail-back : (i : ℕ) → get_or (bytes_of l) (8 + (2 + i)) 0 ≡ get_or (l.label ∷ l.mark ∷ []) i 0
+  tail-back : (i : ℕ) → get_or (bytes_of l) (8 + (2 + i)) 0 ≡ get_or (l.label ∷ byte_of l.mark ∷ []) i 0
   tail-back i =
       ap (λ bs. get_or bs (8 + (2 + i)) 0) apart ∙ get_or_skip first rest 8 (2 + i) (bytes-length 8 _)
-      ∙ get_or_skip (bytes 2 l.parent) (l.label ∷ l.mark ∷ []) 2 i (bytes-length 2 _)
+      ∙ get_or_skip (bytes 2 l.parent) (l.label ∷ byte_of l.mark ∷ []) 2 i (bytes-length 2 _)
 
   module _ (m : List ℕ) (v : ℕ) (room : links_end ≤ length m) (below : v < max_nodes) where
     abbrev after : List ℕ
@@ -87,7 +95,7 @@ module _ (l : Link) (signs : mag l.distance < 2 ^ 63) (low : l.parent < 256 ^ 2)
               ∙ ap (λ bs. signed (number bs)) (overwrite-within m (link_place v) (bytes_of l) fits 0 8 (omega arith)) ∙ distance_back) i;
           parent = (ap number (overwrite-within m (link_place v) (bytes_of l) fits 8 2 (omega arith)) ∙ parent-back) i;
           label = (overwrite-inside m (link_place v) (bytes_of l) fits 10 (omega arith) ∙ tail-back 0) i;
-          mark = (overwrite-inside m (link_place v) (bytes_of l) fits 11 (omega arith) ∙ tail-back 1) i;
+          mark = (ap mark_of (overwrite-inside m (link_place v) (bytes_of l) fits 11 (omega arith) ∙ tail-back 1) ∙ mark-back l.mark) i;
         }
 
     other : (x : ℕ) → (link_place x + link_bytes ≤ link_place v) ⊎ (link_place v + link_bytes ≤ link_place x) → link_in after x ≡ link_in m x
@@ -97,7 +105,7 @@ module _ (l : Link) (signs : mag l.distance < 2 ^ 63) (low : l.parent < 256 ^ 2)
           distance = signed (number (overwrite_frame m (link_place v) (bytes_of l) fits (link_place x) 8 (⊎_map (λ h. omega arith) (λ h. omega arith) side) i));
           parent = number (overwrite_frame m (link_place v) (bytes_of l) fits (link_place x + 8) 2 (⊎_map (λ h. omega arith) (λ h. omega arith) side) i);
           label = overwrite_outside m (link_place v) (bytes_of l) fits (link_place x + 10) (⊎_map (λ h. omega arith) (λ h. omega arith) side) i;
-          mark = overwrite_outside m (link_place v) (bytes_of l) fits (link_place x + 11) (⊎_map (λ h. omega arith) (λ h. omega arith) side) i;
+          mark = mark_of (overwrite_outside m (link_place v) (bytes_of l) fits (link_place x + 11) (⊎_map (λ h. omega arith) (λ h. omega arith) side) i);
         }
 
     -- the link is read back, and every other as it was
@@ -109,7 +117,7 @@ module _ (l : Link) (signs : mag l.distance < 2 ^ 63) (low : l.parent < 256 ^ 2)
 
 -- the four writes of a link are one
 pub link-written : (m : List ℕ) (at : ℕ) (l : Link) → at + link_bytes ≤ length m →
-    set (set (overwrite (overwrite m at (bytes 8 (complement l.distance))) (at + 8) (bytes 2 l.parent)) (at + 10) l.label) (at + 11) l.mark
+    set (set (overwrite (overwrite m at (bytes 8 (complement l.distance))) (at + 8) (bytes 2 l.parent)) (at + 10) l.label) (at + 11) (byte_of l.mark)
     ≡ overwrite m at (bytes_of l)
 link-written m at l h =
     let a = bytes 8 (complement l.distance) in
@@ -118,46 +126,46 @@ link-written m at l h =
     let lb = bytes-length 2 l.parent in
     let lab : length (a ++ b) ≡ 10 = length-append a b ∙ ap₂ (λ (i j : ℕ). i + j) la lb in
     let labl : length (a ++ b ++ (l.label ∷ [])) ≡ 11 = length-append (a ++ b) (l.label ∷ []) ∙ ap (λ (n : ℕ). n + 1) lab in
-    ap (λ x. set (set x (at + 10) l.label) (at + 11) l.mark)
+    ap (λ x. set (set x (at + 10) l.label) (at + 11) (byte_of l.mark))
     (ap (λ (n : ℕ). overwrite (overwrite m at a) (at + n) b) (sym la) ∙ overwrite_join m at a b (omega arith))
-    ∙ ap (λ x. set x (at + 11) l.mark) (overwrite-more m at (a ++ b) 10 l.label lab (omega arith))
-    ∙ overwrite-more m at (a ++ b ++ (l.label ∷ [])) 11 l.mark labl (omega arith)
-    ∙ ap (overwrite m at) (append_snoc (a ++ b) l.label (l.mark ∷ []))
+    ∙ ap (λ x. set x (at + 11) (byte_of l.mark)) (overwrite-more m at (a ++ b) 10 l.label lab (omega arith))
+    ∙ overwrite-more m at (a ++ b ++ (l.label ∷ [])) 11 (byte_of l.mark) labl (omega arith)
+    ∙ ap (overwrite m at) (append_snoc (a ++ b) l.label (byte_of l.mark ∷ []))
 
 -- ---- a mark
 
-module _ (m : List ℕ) (v b : ℕ) (room : links_end ≤ length m) (below : v < max_nodes) where
+module _ (m : List ℕ) (v : ℕ) (k : Mark) (room : links_end ≤ length m) (below : v < max_nodes) where
   abbrev mark_at : ℕ
   mark_at = link_place v + 11
 
   abbrev remarked : List ℕ
-  remarked = overwrite m mark_at (b ∷ [])
+  remarked = overwrite m mark_at (byte_of k ∷ [])
 
-  mark_fits : mark_at + length (b ∷ []) ≤ length m
+  mark_fits : mark_at + length (byte_of k ∷ []) ≤ length m
   mark_fits = omega arith
 
-  same_mark : link_in remarked v ≡ marked b (link_in m v)
+  same_mark : link_in remarked v ≡ marked k (link_in m v)
   same_mark = λ i. record {
-    distance = signed (number (overwrite_frame m mark_at (b ∷ []) mark_fits (link_place v) 8 (inl (omega arith)) i));
-    parent = number (overwrite_frame m mark_at (b ∷ []) mark_fits (link_place v + 8) 2 (inl (omega arith)) i);
-    label = overwrite_outside m mark_at (b ∷ []) mark_fits (link_place v + 10) (inl (omega arith)) i;
-    mark = (ap (λ (k : ℕ). get_or remarked k 0) (sym (add-zero mark_at)) ∙ overwrite-inside m mark_at (b ∷ []) mark_fits 0 (omega arith)) i;
+    distance = signed (number (overwrite_frame m mark_at (byte_of k ∷ []) mark_fits (link_place v) 8 (inl (omega arith)) i));
+    parent = number (overwrite_frame m mark_at (byte_of k ∷ []) mark_fits (link_place v + 8) 2 (inl (omega arith)) i);
+    label = overwrite_outside m mark_at (byte_of k ∷ []) mark_fits (link_place v + 10) (inl (omega arith)) i;
+    mark = (ap (λ (j : ℕ). mark_of (get_or remarked j 0)) (sym (add-zero mark_at)) ∙ ap mark_of (overwrite-inside m mark_at (byte_of k ∷ []) mark_fits 0 (omega arith)) ∙ mark-back k) i;
   }
 
   other_mark : (x : ℕ) → (link_place x + link_bytes ≤ link_place v) ⊎ (link_place v + link_bytes ≤ link_place x) → link_in remarked x ≡ link_in m x
   other_mark x side = λ i. record {
-    distance = signed (number (overwrite_frame m mark_at (b ∷ []) mark_fits (link_place x) 8 (⊎_map (λ h. omega arith) (λ h. omega arith) side) i));
-    parent = number (overwrite_frame m mark_at (b ∷ []) mark_fits (link_place x + 8) 2 (⊎_map (λ h. omega arith) (λ h. omega arith) side) i);
-    label = overwrite_outside m mark_at (b ∷ []) mark_fits (link_place x + 10) (⊎_map (λ h. omega arith) (λ h. omega arith) side) i;
-    mark = overwrite_outside m mark_at (b ∷ []) mark_fits (link_place x + 11) (⊎_map (λ h. omega arith) (λ h. omega arith) side) i;
+    distance = signed (number (overwrite_frame m mark_at (byte_of k ∷ []) mark_fits (link_place x) 8 (⊎_map (λ h. omega arith) (λ h. omega arith) side) i));
+    parent = number (overwrite_frame m mark_at (byte_of k ∷ []) mark_fits (link_place x + 8) 2 (⊎_map (λ h. omega arith) (λ h. omega arith) side) i);
+    label = overwrite_outside m mark_at (byte_of k ∷ []) mark_fits (link_place x + 10) (⊎_map (λ h. omega arith) (λ h. omega arith) side) i;
+    mark = mark_of (overwrite_outside m mark_at (byte_of k ∷ []) mark_fits (link_place x + 11) (⊎_map (λ h. omega arith) (λ h. omega arith) side) i);
   }
 
   -- one byte is the mark
-  pub mark_written : Puts v (marked b (link_in m v)) m (set m (link_place v + 11) b)
+  pub mark_written : Puts v (marked k (link_in m v)) m (set m (link_place v + 11) (byte_of k))
   mark_written =
-      subst (Puts v (marked b (link_in m v)) m) (sym (overwrite-one m mark_at b (omega arith))) (record {
-        links = λ x h. put_one (link_in remarked) (link_in m) v (marked b (link_in m v)) same_mark x (λ side. other_mark x (⊎_map (λ h. omega arith) (λ h. omega arith) side));
-        only = overwrite-only m mark_at (b ∷ []) mark_fits links_at links_size (omega arith) (omega arith);
+      subst (Puts v (marked k (link_in m v)) m) (sym (overwrite-one m mark_at (byte_of k) (omega arith))) (record {
+        links = λ x h. put_one (link_in remarked) (link_in m) v (marked k (link_in m v)) same_mark x (λ side. other_mark x (⊎_map (λ h. omega arith) (λ h. omega arith) side));
+        only = overwrite-only m mark_at (byte_of k ∷ []) mark_fits links_at links_size (omega arith) (omega arith);
       })
 
 -- ---- a step
@@ -211,5 +219,5 @@ only-links o v h = λ i. record {
   distance = signed (number (only_part o (link_place v) 8 (inl (omega arith)) i));
   parent = number (only_part o (link_place v + 8) 2 (inl (omega arith)) i);
   label = o.others (link_place v + 10) (inl (omega arith)) i;
-  mark = o.others (link_place v + 11) (inl (omega arith)) i;
+  mark = mark_of (o.others (link_place v + 11) (inl (omega arith)) i);
 }

@@ -1,5 +1,6 @@
 -- What a search for distances has found, in lent memory behind the store.
-use Rattle.std.specs.Prelude.{◌≡◌, true, cond, List, [], ◌∷◌, ◌++◌, map, ℕ, ◌+◌, ◌*◌, ◌<◌, ◌≤◌, eqb, ltb, pos, length, get_or}
+use Rattle.std.specs.Prelude as rust
+use Rattle.std.specs.Prelude.{◌≡◌, Bool, true, false, cond, None, Some, List, [], ◌∷◌, ◌++◌, map, ℕ, ◌+◌, ◌*◌, ◌<◌, ◌≤◌, eqb, pos, length, get_or}
 use Rattle.model.specs.Bytes.{number, signed, part, Only}
 use Rattle.model.specs.Limits.{max_nodes, max_steps}
 use Rattle.model.specs.Lists.{up_from}
@@ -8,8 +9,8 @@ use Rattle.theory.specs.Search as search
 use Rattle.theory.specs.Search.{State, above, Before, Upward, trail}
 use Rattle.links.specs.declared.Link.{Link}
 use Rattle.links.specs.declared.Taken.{Taken}
-use Rattle.links.specs.declared.Way.{Way}
-use Rattle.links.specs.declared.Way.TheVariants.{Apart, Above}
+use Rattle.links.specs.declared.Mark.{Mark}
+use Rattle.links.specs.declared.Mark.TheVariants.{Unknown, Waiting, Tried}
 
 -- the bytes of a link and of a step
 abbrev pub link_bytes : ℕ
@@ -35,6 +36,16 @@ steps_size = taken_bytes * max_steps
 abbrev pub links_end : ℕ
 links_end = steps_at + steps_size
 
+-- the byte of a mark
+abbrev pub byte_of : Mark → ℕ
+byte_of Unknown = 0
+byte_of Waiting = 1
+byte_of Tried = 2
+
+-- the mark that a byte stands for: any but the first two is that of a node whose edges have been tried
+abbrev pub mark_of : ℕ → Mark
+mark_of b = cond (eqb b 0) Unknown (cond (eqb b 1) Waiting Tried)
+
 -- the link to the node v: the distance in eight bytes, the parent in two, the label and the mark
 abbrev pub link_place : ℕ → ℕ
 link_place v = links_at + link_bytes * v
@@ -44,7 +55,7 @@ link_in memory v = record {
   distance = signed (number (part memory (link_place v) 8));
   parent = number (part memory (link_place v + 8) 2);
   label = get_or memory (link_place v + 10) 0;
-  mark = get_or memory (link_place v + 11) 0;
+  mark = mark_of (get_or memory (link_place v + 11) 0);
 }
 
 -- the step i: the node in two bytes, and the label
@@ -54,21 +65,22 @@ step_place i = steps_at + taken_bytes * i
 abbrev pub taken_in : List ℕ → ℕ → Taken
 taken_in memory i = record { node = number (part memory (step_place i) 2); label = get_or memory (step_place i + 2) 0 }
 
--- the marks: no walk is known, the edges are still to be tried, they have been tried
-abbrev pub unknown : ℕ
-unknown = 0
+-- whether a walk is known, and whether the edges are still to be tried
+abbrev pub is_known : Mark → Bool
+is_known Unknown = false
+is_known Waiting = true
+is_known Tried = true
 
-abbrev pub waiting : ℕ
-waiting = 1
-
-abbrev pub tried : ℕ
-tried = 2
+abbrev pub is_waiting : Mark → Bool
+is_waiting Unknown = false
+is_waiting Waiting = true
+is_waiting Tried = false
 
 -- the state of the search
 abbrev pub state_in : List ℕ → State
 state_in memory = record {
-  known = λ v. ltb unknown (link_in memory v).mark;
-  waiting = λ v. eqb (link_in memory v).mark waiting;
+  known = λ v. is_known (link_in memory v).mark;
+  waiting = λ v. is_waiting (link_in memory v).mark;
   dist = λ v. (link_in memory v).distance;
   parent = λ v. (link_in memory v).parent;
   label = λ v. (link_in memory v).label;
@@ -82,7 +94,7 @@ abbrev pub first_steps : List ℕ → ℕ → List search.Taken
 first_steps memory k = map (λ i. taken_of (taken_in memory i)) (up_from 0 k)
 
 -- a link with another mark
-abbrev pub marked : ℕ → Link → Link
+abbrev pub marked : Mark → Link → Link
 marked mark l = record { distance = l.distance; parent = l.parent; label = l.label; mark = mark }
 
 -- the link to v is this one, every other is as it was, and so is every byte of no link
@@ -99,10 +111,10 @@ pub record PutsStep (i : ℕ) (step : Taken) (before after : List ℕ) : Type 0 
 
 -- at the start: no link, and the link to the start node
 abbrev pub no_link : Link
-no_link = record { distance = pos 0; parent = 0; label = 0; mark = unknown }
+no_link = record { distance = pos 0; parent = 0; label = 0; mark = Unknown }
 
 abbrev pub start_link : Link
-start_link = record { distance = pos 0; parent = 0; label = 0; mark = waiting }
+start_link = record { distance = pos 0; parent = 0; label = 0; mark = Waiting }
 
 -- the start node alone is known, and every byte of no link is as it was
 pub record Begins (before after : List ℕ) : Type 0 where
@@ -119,9 +131,9 @@ pub record Climbs (memory : List ℕ) (u : ℕ) : Type 0 where
   pub known : (state_in memory).known u ≡ true
 
 -- v is not on the way up from u to the start node, or stands j steps above u
-abbrev pub WayUp : List ℕ → ℕ → ℕ → Way → Type 0
-WayUp memory u v Apart = (v ≡ 0 → ⊥) × (k : ℕ) × (above (state_in memory).parent k u ≡ 0) × Before (state_in memory).parent v k u
-WayUp memory u v (Above j) = (above (state_in memory).parent j u ≡ v) × Before (state_in memory).parent 0 j u
+abbrev pub WayUp : List ℕ → ℕ → ℕ → rust.Option ℕ → Type 0
+WayUp memory u v None = (v ≡ 0 → ⊥) × (k : ℕ) × (above (state_in memory).parent k u ≡ 0) × Before (state_in memory).parent v k u
+WayUp memory u v (Some j) = (above (state_in memory).parent j u ≡ v) × Before (state_in memory).parent 0 j u
 
 -- the steps are those down to u from the node j steps above it, and one with a label; every byte of no step is as it was
 pub record Closes (u label j : ℕ) (before after : List ℕ) : Type 0 where

@@ -4,35 +4,51 @@
 ghost use Rattle.std.specs.Prelude.{◌≡◌, ◌+◌, ◌≤◌, ◌<◌, length};
 ghost use Rattle.model.specs.Limits.{max_nodes, max_steps};
 ghost use Rattle.theory.specs.Search.{Before};
-ghost use Rattle.links.specs.Links.{links_end, link_in, taken_in, state_in, marked, Puts, PutsStep, Begins, Climbs, WayUp, Closes};
+ghost use Rattle.links.specs.Links.{links_end, link_in, taken_in, state_in, byte_of, mark_of, marked, Puts, PutsStep, Begins, Climbs, WayUp, Closes};
 
 use node::Node;
 
+// The marks of a node: no walk to it is known, its edges are still to be tried, they have been tried.
+#[derive(Clone, Copy, Debug, PartialEq, Eq)]
+pub enum Mark {
+    Unknown = 0,
+    Waiting = 1,
+    Tried = 2,
+}
+
+impl Mark {
+    // Its byte in memory.
+    fn byte(self) -> u8
+        ensures { result ≡ byte_of self }
+    {
+        self as u8
+    }
+}
+
+impl From<u8> for Mark {
+    // The mark that a byte stands for.
+    fn from(byte: u8) -> Mark
+        ensures { result ≡ mark_of byte }
+    {
+        match byte {
+            0 => Mark::Unknown,
+            1 => Mark::Waiting,
+            _ => Mark::Tried,
+        }
+    }
+}
+
 // A link: the distance of a node, its parent, the label that leads from there to it, and a mark.
-#[derive(Clone, Copy)]
+#[derive(Clone, Copy, Debug, PartialEq, Eq)]
 pub struct Link {
     pub distance: i64,
     pub parent: usize,
     pub label: u8,
-    pub mark: u8,
-}
-
-// The marks of a node: no walk to it is known, its edges are still to be tried, they have been tried.
-pub const UNKNOWN: u8 = 0;
-
-pub const WAITING: u8 = 1;
-
-pub const TRIED: u8 = 2;
-
-// Where a node stands on the way up from another by the parents: not on it, or so many steps above.
-#[derive(Clone, Copy)]
-pub enum Way {
-    Apart,
-    Above(usize),
+    pub mark: Mark,
 }
 
 // A step of a cycle: the node that it leaves, and its label.
-#[derive(Clone, Copy)]
+#[derive(Clone, Copy, Debug, PartialEq, Eq)]
 pub struct Taken {
     pub node: usize,
     pub label: u8,
@@ -59,7 +75,7 @@ pub fn link_to(m: &[u8], v: usize) -> Link
         distance,
         parent,
         label: m[at + 10],
-        mark: m[at + 11],
+        mark: Mark::from(m[at + 11]),
     }
 }
 
@@ -72,15 +88,15 @@ pub fn put_link(m: &mut [u8], v: usize, link: Link)
     words::write_i64(m, at, link.distance);
     words::write_u16(m, at + 8, link.parent as u16);
     m[at + 10] = link.label;
-    m[at + 11] = link.mark;
+    m[at + 11] = link.mark.byte();
 }
 
 // Marks the node v.
-pub fn set_mark(m: &mut [u8], v: usize, mark: u8)
+pub fn set_mark(m: &mut [u8], v: usize, mark: Mark)
     requires { (v < max_nodes) × (links_end ≤ length m.old) }
     ensures { Puts v (marked mark (link_in m.old v)) m.old m.new }
 {
-    m[LINKS + LINK_BYTES * v + 11] = mark;
+    m[LINKS + LINK_BYTES * v + 11] = mark.byte();
 }
 
 // The step i of the cycle.
@@ -119,27 +135,27 @@ pub fn begin(m: &mut [u8])
             distance: 0,
             parent: 0,
             label: 0,
-            mark: WAITING,
+            mark: Mark::Waiting,
         },
     );
 }
 
-// Where v stands on the way up from u.
-pub fn way_up(m: &[u8], u: usize, v: usize) -> Way
+// How many steps above u v stands on the way up by the parents, if it is on it.
+pub fn way_up(m: &[u8], u: usize, v: usize) -> Option<usize>
     requires { Climbs m.now u }
     ensures { WayUp m.now u v result }
 {
     let mut at = u;
     let mut j = 0;
+    // No `for`: the way is as long as the parents make it.
     while at != v {
         if at == 0 {
-            return Way::Apart;
+            return None;
         }
-        let link = link_to(m, at);
-        at = link.parent;
+        at = link_to(m, at).parent;
         j += 1;
     }
-    Way::Above(j)
+    Some(j)
 }
 
 // Writes the cycle that a label closes from u to the node j steps above it: the steps down to u, and then that one.
@@ -148,10 +164,8 @@ pub fn put_cycle(m: &mut [u8], u: usize, label: u8, j: usize)
     ensures { Closes u label j m.old m.new }
 {
     let mut at = u;
-    let mut left = j;
-    while 0 < left {
+    for left in (0..j).rev() {
         let link = link_to(m, at);
-        left -= 1;
         put_step(
             m,
             left,

@@ -20,7 +20,7 @@ fn list_mask(table: &mut [u16], at: usize, m: u16, c: u32) -> usize
     requires { (m < mask_count) × (at + length (keep (λ k. eqb (ones max_window k) c) (m ∷ [])) ≤ length table.old) }
     ensures { Put table.old table.new at (keep (λ k. eqb (ones max_window k) c) (m ∷ [])) result }
 {
-    if u32::count_ones(m as u32) != c {
+    if m.count_ones() != c {
         return at;
     }
     table[at] = m;
@@ -33,10 +33,8 @@ fn list_group(table: &mut [u16], at: usize, c: u32) -> usize
     ensures { Put table.old table.new at (group c) result }
 {
     let mut end = at;
-    let mut m = 0;
-    while m < COUNT {
+    for m in 0..COUNT {
         end = list_mask(table, end, m as u16, c);
-        m += 1;
     }
     end
 }
@@ -47,31 +45,20 @@ fn make_table() -> [u16; COUNT]
 {
     let mut table = [0u16; COUNT];
     let mut end = 0;
-    let mut c = 0;
-    while c <= Node::MAX_WINDOW {
+    for c in 0..=Node::MAX_WINDOW {
         end = list_group(&mut table, end, c as u32);
-        c += 1;
     }
     table
 }
 
-// A mask, at a wider type.
-fn number(m: u16) -> u64
-    ensures { result ≡ m }
-{
-    m as u64
-}
-
 // Writes the numbers of a table, one on each line, and gives the place after them.
 fn put_lines(out: &mut [u8], table: &[u16; COUNT]) -> usize
-    requires { (length table.now ≡ mask_count) × (length (flat_map number_line table.now) ≤ length out.old) }
+    requires { length (flat_map number_line table.now) ≤ length out.old }
     ensures { Put out.old out.new 0 (flat_map number_line table.now) result }
 {
     let mut end = 0;
-    let mut i = 0;
-    while i < COUNT {
-        end = text::put_number_line(out, end, number(table[i]));
-        i += 1;
+    for &m in table {
+        end = text::put_number_line(out, end, u64::from(m));
     }
     end
 }

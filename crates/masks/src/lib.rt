@@ -19,18 +19,11 @@ pub fn table() -> [u16; COUNT]
     MASKS
 }
 
-// A mask, at a wider type.
-fn number(m: u16) -> u32
-    ensures { result ≡ m }
-{
-    m as u32
-}
-
 // 1 for a mask that is clear of a pattern, 0 for any other.
 fn if_clear(m: u32, pattern: u32) -> usize
     ensures { result ≡ one (clear_of pattern m) }
 {
-    if m & pattern == 0 { 1 } else { 0 }
+    usize::from(m & pattern == 0)
 }
 
 // Lists the masks of the table from `at` up to `end` that are clear of a pattern, and gives the place after them. Each mask is written,
@@ -47,12 +40,10 @@ pub fn list_clear(
     ensures { Lists (clear_in pattern at end) (end - at) from list.old list.new result }
 {
     let mut next = from;
-    let mut k = at;
-    while k < end {
-        let m = number(table[k]);
+    for &mask in &table[at..end] {
+        let m = u32::from(mask);
         list[next] = m;
         next += if_clear(m, pattern);
-        k += 1;
     }
     next
 }
@@ -65,21 +56,12 @@ pub fn list_runs(first: u32, count: usize, pattern: u32, list: &mut [u32], from:
 {
     let mut next = from;
     let mut m = first;
-    let mut k = 0;
-    while k < count {
+    for _k in 0..count {
         list[next] = m;
         next += if_clear(m, pattern);
         m *= 2;
-        k += 1;
     }
     next
-}
-
-// x, at a wider type.
-fn wide(x: u16) -> usize
-    ensures { result ≡ x }
-{
-    x as usize
 }
 
 // Where the group of c ones starts.
@@ -87,7 +69,7 @@ pub fn group_start(c: usize) -> usize
     requires { c ≤ suc max_window }
     ensures { result ≡ group_start c }
 {
-    wide(STARTS[c])
+    usize::from(STARTS[c])
 }
 
 // Where the part of the group of c ones that lies below bit `window` ends.
@@ -95,8 +77,7 @@ pub fn group_end(c: usize, window: usize) -> usize
     requires { (c ≤ max_window) × (window ≤ max_window) }
     ensures { result ≡ group_start c + length (keep (λ m. ltb m (2 ^ window)) (group c)) }
 {
-    let row = COUNTS[c];
-    group_start(c) + wide(row[window])
+    group_start(c) + usize::from(COUNTS[c][window])
 }
 
 // All 1,024 masks, grouped by their count of ones, upward in each group.

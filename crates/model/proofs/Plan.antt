@@ -82,7 +82,7 @@ module _ (e : Edition) where
   unfolding read_from
   read_from-nil r = refl
 
-  read_from-cons : (c : ℕ) (bs : List ℕ) (r : Reading) →
+  pub read_from-cons : (c : ℕ) (bs : List ℕ) (r : Reading) →
       read_from e (c ∷ bs) r
       ≡ refused_or (fault e r (length (c ∷ bs)) c (get_or bs 0 0) (get_or bs 1 0) (last_operand e c bs))
       (read_from e (drop (width e c) (c ∷ bs)) (after r c (get_or bs 0 0) (get_or bs 1 0) (last_operand e c bs)))

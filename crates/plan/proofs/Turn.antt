@@ -1,35 +1,36 @@
 -- A turn of the reader: what holds before each command, and how a command keeps it.
 -- Assumes nothing.
-use mathlib.Core.Path.{◌≡◌, refl, sym, ap, ap₂, ◌∙◌, subst}
-use mathlib.Core.Bool.{true, false}
-use mathlib.Core.Logic.{inl, inr, ⊎_elim}
-use mathlib.Core.List.{List, [], ◌++◌}
-use Prim.Native.Nat.{ℕ, zero, suc, ◌+◌, ◌-◌, ◌≤◌, ◌<◌}
-use native.Mathlib.Nat.{lt_of_lt_of_le}
+use mathlib.Core.Path.{◌≡◌, refl, sym, ap, ap₂, ◌∙◌}
+use mathlib.Core.Bool.{false, false≢true}
+use mathlib.Core.List.{List, [], ◌∷◌, ◌++◌}
+use Prim.Native.Nat.{ℕ, zero, suc, ◌-◌, ◌≤◌, ◌<◌}
 use native.Mathlib.Omega.{arith}
-use borrow.Author.Tests.{ltb-true, leb-true}
-use lib.ListN.{length, get_or, drop, replicate, length-replicate, drop_of_length-le}
+use native.Mathlib.Numerals.{add-one}
+use Rattle.std.specs.Prelude as rust
+use Rattle.std.specs.Prelude.{None, Some, Ok, Err}
+use Rattle.std.specs.Result.{IsErrAnd}
+use Rattle.std.proofs.lemmas.List.{take_all}
+use borrow.Author.Tests.{le-ltb}
+use lib.Dec.{ltb}
+use lib.ListN.{length, get_or, take, drop, replicate, length-replicate, length-drop}
+use lib.Seq.{drop-nil}
 use Rattle.model.specs.Edition.{Edition}
-use Rattle.model.specs.Limits.{max_tasks}
 use Rattle.model.specs.Plan as model
-use Rattle.model.proofs.Plan.{Passes, fault-none, read_from-at, read_from-nil, known_is, task_follows, states-ranged, lock-ranged, arc_ranged}
+use Rattle.model.proofs.Plan.{fault-none, read_from-cons, read_from-nil, width-pos}
+use Rattle.model.proofs.Lists.{get_d_default}
+use Rattle.plan.specs.declared.Operation.{Operation}
+use Rattle.plan.specs.declared.Plan.{Plan}
 use Rattle.plan.specs.declared.Reading.{Reading}
 use Rattle.plan.specs.declared.Fault.{Fault}
 use Rattle.plan.specs.declared.Fault.TheVariants.{BytesEnd, UnknownCommand, OutOfPlace, OutOfRange}
-use Rattle.plan.specs.declared.Outcome.{Outcome}
-use Rattle.plan.specs.declared.Outcome.TheVariants.{Sound, Faulty}
-use Rattle.plan.specs.declared.PlanRead.{PlanRead}
-use Rattle.plan.specs.declared.Task.{Task}
-use Rattle.model.proofs.Lists.{get_d_default}
-use Rattle.plan.specs.View.{fault_number, check_number, empty_task, tasks_of, reading_of, nothing_read, empty_table, answer_of, answered, refusal, FaultAlone, Sized, arcs_in, arcs_below, arc_at, pair_count, Within, Holds, Readable, ReadableArc, Reads}
-use Rattle.plan.proofs.View.{task-count, label-low, lock-rises, least-rises}
+use Rattle.plan.specs.View.{answer_of, fault_number, command_number, given_in, fault_in, reading_of, NothingRead, empty_table, arcs_in, arcs_below, arc_at, pair_count, fault_here, IsOperation, Within, Holds, Readable, Reads}
+use Rattle.plan.proofs.View.{fault-from-least}
 
--- the bytes before a place have been read
-pub record Reached (e : Edition) (s next : List ℕ) (r : Reading) (at : ℕ) : Type 0 where
-  pub inside : at ≤ length s
+-- the bytes before the rest have been read
+pub record Reached (e : Edition) (s next : List ℕ) (r : Reading) (left : List ℕ) : Type 0 where
   pub within : Within r
   pub holds : Holds next r.least
-  pub rest : model.read_plan_in e s ≡ model.read_from e (drop at s) (reading_of r (arcs_in next))
+  pub rest : model.read_plan_in e s ≡ model.read_from e left (reading_of r (arcs_in next))
 
 -- a table of zeros has no arc
 empty-below : (n k : ℕ) → arcs_below (replicate n 0) k ≡ []
@@ -48,75 +49,57 @@ empty_holds = record {
   below = λ m f z. omega arith;
 }
 
-nothing-within : Within nothing_read
-nothing-within = record {
-  fits = omega arith;
-  room = length-replicate {A = Task} max_tasks empty_task;
-  spare = λ k h. get_d_default max_tasks k empty_task;
-  locks = record {
-    within = omega arith;
-    above = λ k h. ap (λ (t : Task). t.locked) (get_d_default max_tasks k empty_task);
-    below = λ m f. absurd (omega arith);
-  };
-  states = omega arith;
-}
-
 -- before the first command
-pub reached-start : (e : Edition) (s next : List ℕ) (r : Reading) → next ≡ empty_table → r ≡ nothing_read → Reached e s next r 0
-unfolding model.read_plan_in
-reached-start e s next r t k = rw (t, k) (record {
-  inside = omega arith;
-  within = nothing-within;
-  holds = empty_holds;
-  rest = ap (λ (arcs : List model.Arc). model.read_from e s (reading_of nothing_read arcs)) (sym empty-arcs);
-})
+module _ (r : Reading) (n : NothingRead r) where
+  nothing-within : Within r
+  nothing-within = record {
+    locks = λ from. (λ i. model.any_locked (drop from (n.tasks i))) ∙ ap model.any_locked (drop-nil from) ∙ sym (ltb-zero from (omega (arith, n.lock)));
+    states = λ m e. absurd (none_given m (sym n.states ∙ e));
+    some = λ p e. absurd (none_given p (sym n.policy ∙ e));
+    policy = λ m e. absurd (none_given m (sym n.states ∙ e));
+    end = λ e. absurd (false≢true (sym n.ended ∙ e));
+  }
+    where
+      ltb-zero : (k : ℕ) → r.lock ≤ k → ltb k r.lock ≡ false
+      ltb-zero k h = le-ltb k r.lock h
 
--- what the reader says of its answer
-abbrev pub Answers : Edition → List ℕ → PlanRead → Type 0
-Answers e s a = Sized a.plan × (answer_of a ≡ model.read_plan_in e s) × FaultAlone a
+      none_given : (m : ℕ) → ◌≡◌ {A = rust.Option ℕ} None (Some m) → ⊥
+      none_given m q = let z : ◌≡◌ {A = ℕ} 0 1 = cc in omega arith
 
-sized : (o : Outcome) (next : List ℕ) (r : Reading) → Within r → Holds next r.least → Sized (answered o r next).plan
-sized o next r w h = record { fits = w.fits; room = w.room; spare = w.spare; table = h.size }
+  nothing-reading : reading_of r (arcs_in empty_table) ≡ model.nothing_read
+  nothing-reading = λ i. record { tasks = n.tasks i; policy = given_in (n.policy i); states = given_in (n.states i); arcs = empty-arcs i; ended = n.ended i }
 
--- a fault is the answer
-answers_fault : (e : Edition) (s : List ℕ) (a : PlanRead) (f : Fault) → a ≡ refusal f → model.read_plan_in e s ≡ model.faulty (fault_number f) → Answers e s a
-answers_fault e s a f is k =
-    rw is (sized (Faulty f) empty_table nothing_read nothing-within empty_holds, sym k, record { empty = λ g q. ap refusal (same g q) })
-  where
-    same : (g : Fault) → ◌≡◌ {A = Outcome} (Faulty f) (Faulty g) → f ≡ g
-    same g q = cc
+  pub reached-start : (e : Edition) (s next : List ℕ) → next ≡ empty_table → Reached e s next r s
+  unfolding model.read_plan_in
+  reached-start e s next t = rw t (record {
+    within = nothing-within;
+    holds = rw n.least empty_holds;
+    rest = ap (model.read_from e s) (sym nothing-reading);
+  })
 
 -- past the last command
-module _ (e : Edition) (s next : List ℕ) (r : Reading) (at : ℕ) (h : Reached e s next r at) (end : length s ≤ at) where
-  at-end : model.read_plan_in e s ≡ model.at_end (reading_of r (arcs_in next))
-  at-end =
-      h.rest ∙ ap (λ (l : List ℕ). model.read_from e l (reading_of r (arcs_in next))) (drop_of_length-le s end) ∙ read_from-nil e (reading_of r (arcs_in next))
-
-  pub answers_plan : (a : PlanRead) → a ≡ answered Sound r next → r.ended ≡ true → Answers e s a
-  answers_plan a k d =
-      rw k (sized Sound next r h.within h.holds, sym (at-end ∙ simp d), record { empty = λ f q. absurd (never f q) })
-    where
-      never : (f : Fault) → ◌≡◌ {A = Outcome} Sound (Faulty f) → ⊥
-      never f q = let z : ◌≡◌ {A = ℕ} 0 1 = cc in omega arith
-
-  pub answers_short : (a : PlanRead) → a ≡ refusal BytesEnd → r.ended ≡ false → Answers e s a
-  answers_short a k d = answers_fault e s a BytesEnd k (at-end ∙ simp d)
+pub at-end : (e : Edition) (s next : List ℕ) (r : Reading) (rest : List ℕ) → Reached e s next r rest → rest ≡ [] →
+    model.read_plan_in e s ≡ model.at_end (reading_of r (arcs_in next))
+at-end e s next r rest h end = h.rest ∙ ap (λ (l : List ℕ). model.read_from e l (reading_of r (arcs_in next))) end ∙ read_from-nil e (reading_of r (arcs_in next))
 
 -- where a command is due
-module _ (e : Edition) (s next : List ℕ) (r : Reading) (at : ℕ) (h : Reached e s next r at) (more : at < length s) where
-  abbrev pub last_here : ℕ
-  last_here = model.last_operand e (get_or s at 0) (drop (suc at) s)
+module _ (e : Edition) (s next : List ℕ) (r : Reading) (rest : List ℕ) (c : ℕ) (bs : List ℕ) (h : Reached e s next r rest) (due : rest ≡ c ∷ bs) where
+  abbrev fault_due : ℕ
+  fault_due = model.fault e (reading_of r (arcs_in next)) (length (c ∷ bs)) c (get_or bs 0 0) (get_or bs 1 0) (model.last_operand e c bs)
 
-  abbrev pub fault_here : ℕ
-  fault_here = model.fault e (reading_of r (arcs_in next)) (length s - at) (get_or s at 0) (get_or s (at + 1) 0) (get_or s (at + 2) 0) last_here
+  abbrev later : model.PlanAnswer
+  later =
+      model.read_from e (drop (model.width e c) (c ∷ bs))
+      (model.after (reading_of r (arcs_in next)) c (get_or bs 0 0) (get_or bs 1 0) (model.last_operand e c bs))
 
-  abbrev rest : model.PlanAnswer
-  rest =
-      model.read_from e (drop (at + model.width e (get_or s at 0)) s)
-      (model.after (reading_of r (arcs_in next)) (get_or s at 0) (get_or s (at + 1) 0) (get_or s (at + 2) 0) last_here)
+  step : model.read_plan_in e s ≡ model.refused_or fault_due later
+  step = h.rest ∙ ap (λ (l : List ℕ). model.read_from e l (reading_of r (arcs_in next))) due ∙ read_from-cons e c bs (reading_of r (arcs_in next))
 
-  step : model.read_plan_in e s ≡ model.refused_or fault_here rest
-  step = h.rest ∙ read_from-at e s at (reading_of r (arcs_in next)) more
+  -- the fault found is the definition's
+  found : fault_due ≡ fault_here e r c bs
+  found =
+      sym (fault-from-least e r next (length (c ∷ bs)) c (get_or bs 0 0) (get_or bs 1 0) (model.last_operand e c bs) h.within h.holds)
+      ∙ ap (λ (k : ℕ). fault_in e r k c (get_or bs 0 0) (get_or bs 1 0) (model.last_operand e c bs)) (sym (add-one (length bs)))
 
   refusal-first : (f : Fault) (a : model.PlanAnswer) → model.refused_or (fault_number f) a ≡ model.faulty (fault_number f)
   refusal-first BytesEnd a = refl
@@ -125,56 +108,56 @@ module _ (e : Edition) (s next : List ℕ) (r : Reading) (at : ℕ) (h : Reached
   refusal-first OutOfRange a = refl
 
   -- a fault is the answer
-  pub answers_found : (a : PlanRead) (o : Outcome) (f : Fault) → a ≡ refusal f → o ≡ Faulty f → check_number o ≡ fault_here → Answers e s a
-  answers_found a o f r' k is =
-      answers_fault e s a f r' (step ∙ ap (λ (n : ℕ). model.refused_or n rest) (sym is ∙ ap check_number k) ∙ refusal-first f rest)
+  pub answers_fault : (f : Fault) → fault_here e r c bs ≡ fault_number f → model.faulty (fault_number f) ≡ model.read_plan_in e s
+  answers_fault f is = sym (step ∙ ap (λ (n : ℕ). model.refused_or n later) (found ∙ is) ∙ refusal-first f later)
 
-  passes : 0 ≡ fault_here → Passes e (reading_of r (arcs_in next)) (get_or s at 0) (get_or s (at + 1) 0) (get_or s (at + 2) 0) last_here
-  passes is = (fault-none e (reading_of r (arcs_in next)) (length s - at) _ _ _ _ (sym is)).0
+  module _ (g : Operation) (is : IsOperation e c bs g) (none : fault_here e r c bs ≡ 0) where
+    -- a command without a fault may be read
+    pub readable : Readable r next (command_number g.command) g.x g.y g.z
+    readable = rw (is.command, is.x, is.y, is.z) (record {
+      within = h.within;
+      holds = h.holds;
+      edition = e;
+      left = length (c ∷ bs);
+      passes = found ∙ none;
+    })
 
-  -- a lock without a fault is above the last one
-  lock-above : 0 ≡ fault_here → get_or s at 0 ≡ 9 → (r.lock < get_or s (at + 1) 0) × (get_or s (at + 1) 0 ≤ r.count)
-  lock-above is k =
-      let p = passes is in
-      let t = lock-ranged e _ _ _ _ _ k p.ranged in
-      let rises : model.lock_rises (tasks_of r.tasks r.count) (get_or s (at + 1) 0) ≡ true = simp k at p.above in
-      (ltb-true _ _ (sym (lock-rises r h.within _ t.0) ∙ rises), omega (arith, t.1, task-count r h.within))
+    -- and then the bytes before the next one have been
+    pub reached-next : (n : Reading) (after : List ℕ) → Reads r n next after (command_number g.command) g.x g.y g.z →
+        Reached e s after n (drop (model.width e (command_number g.command)) rest)
+    reached-next n after d = record {
+      within = d.within;
+      holds = d.holds;
+      rest =
+          step ∙ ap (λ (k : ℕ). model.refused_or k later) (found ∙ none)
+          ∙ sym (λ i. model.read_from e (drop (model.width e (is.command i)) (due i)) (model.after (reading_of r (arcs_in next)) (is.command i) (is.x i) (is.y i) (is.z i)))
+          ∙ ap (model.read_from e (drop (model.width e (command_number g.command)) rest)) (sym d.reading);
+    }
 
-  -- a command without a fault may be read
-  pub readable : 0 ≡ fault_here → Readable r (get_or s at 0) (get_or s (at + 1) 0)
-  readable is =
-      let p = passes is in
-      record {
-        within = h.within;
-        going = p.going;
-        known = ⊎_elim inl (λ k. inr k.0) (known_is e (get_or s at 0) p.known);
-        room = λ k. subst (λ (n : ℕ). n < max_tasks) (task-count r h.within) (task_follows _ _ k p.follows);
-        states = λ k. states-ranged e _ _ _ _ _ k p.ranged;
-        lock = lock-above is;
-      }
+    -- it is within the bytes left, and takes one at least
+    pub width-fits : (model.width e (command_number g.command) ≤ length rest) × (0 < model.width e (command_number g.command))
+    width-fits =
+        rw (is.command, due)
+        ((fault-none e (reading_of r (arcs_in next)) (length (c ∷ bs)) c (get_or bs 0 0) (get_or bs 1 0) (model.last_operand e c bs) (found ∙ none)).1, width-pos e c)
 
-  pub readable_arc : 0 ≡ fault_here → get_or s at 0 ≡ 4 → ReadableArc r next (get_or s (at + 1) 0) (get_or s (at + 2) 0) last_here
-  readable_arc is k =
-      let p = passes is in
-      let t = arc_ranged e _ _ _ _ _ k p.ranged in
-      let low = label-low e r (arcs_in next) _ _ _ _ h.within p.ranged k in
-      let rises : model.rising (arcs_in next) (get_or s (at + 1) 0) (get_or s (at + 2) 0) ≡ true = simp k at p.above in
-      record {
-        within = h.within;
-        going = p.going;
-        holds = h.holds;
-        from = lt_of_lt_of_le t.0 h.within.states;
-        label = low;
-        to = lt_of_lt_of_le t.2 h.within.states;
-        rises = leb-true _ _ (sym (least-rises next r.least h.holds _ _ low) ∙ rises);
-      }
+-- ---- the bytes left as parts of those there were
 
-  -- and then the bytes before the next one have been
-  pub reached-next : 0 ≡ fault_here → (n : Reading) (after : List ℕ) →
-      Reads r n next after (get_or s at 0) (get_or s (at + 1) 0) (get_or s (at + 2) 0) last_here → Reached e s after n (at + model.width e (get_or s at 0))
-  reached-next is n after d = record {
-    inside = omega (arith, (fault-none e (reading_of r (arcs_in next)) (length s - at) _ _ _ _ (sym is)).1);
-    within = d.within;
-    holds = d.holds;
-    rest = step ∙ ap (λ (k : ℕ). model.refused_or k rest) (sym is) ∙ ap (model.read_from e (drop (at + model.width e (get_or s at 0)) s)) (sym d.reading);
-  }
+module _ (l : List ℕ) (w : ℕ) where
+  part_all : take (length l - w) (drop w l) ≡ drop w l
+  part_all = take_all (length l - w) (drop w l) (omega (arith, length-drop w l))
+
+  -- past w bytes
+  pub part_of : (v : ℕ) → w ≡ v → drop v l ≡ take (length l - w) (drop w l)
+  part_of v e = ap (λ (k : ℕ). drop k l) (sym e) ∙ sym part_all
+
+  pub part_less : w ≤ length l → 0 < w → length (take (length l - w) (drop w l)) < length l
+  part_less h k = omega (arith, ap (λ (m : List ℕ). length m) part_all, length-drop w l)
+
+pub none-left : (l : List ℕ) → length l ≡ 0 → l ≡ []
+none-left [] h = refl
+none-left (x ∷ l) h = absurd (omega (arith, h))
+
+-- a fault that is handed on is the answer
+pub refused_by : (t : rust.Result Plan Fault) (f : Fault) → IsErrAnd t (λ e. e ≡ f) → (a : model.PlanAnswer) → model.faulty (fault_number f) ≡ a → answer_of t ≡ a
+refused_by (Ok p) f h a k = absurd h
+refused_by (Err e) f h a k = ap (λ (g : Fault). model.faulty (fault_number g)) h ∙ k

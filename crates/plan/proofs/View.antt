@@ -1,7 +1,7 @@
 -- Laws of what the reader's structs stand for: the tasks, the last lock and the table of next states.
 -- Assumes nothing.
 use mathlib.Core.Path.{◌≡◌, refl, sym, ap, ap₂, ◌∙◌, subst}
-use mathlib.Core.Bool.{Bool, true, false, cond, not, ◌&&◌, ◌||◌, and-false, or-true, false≢true}
+use mathlib.Core.Bool.{Bool, true, false, cond, not, ◌&&◌, ◌||◌, and-false, or-true}
 use mathlib.Core.List.{List, [], ◌∷◌, ◌++◌, append-nil}
 use mathlib.Core.Option.{Option, none, some}
 use Prim.Native.Nat.{ℕ, zero, suc, ◌+◌, ◌-◌, ◌*◌, ◌/◌, ◌%◌, ◌^◌, ◌≤◌, ◌<◌}
@@ -17,25 +17,24 @@ use Rattle.model.specs.Limits.{max_states}
 use Rattle.model.specs.Plan as model
 use Rattle.model.specs.Plan.{Arc, next_in, with_lock, lock_at, any_locked, rising, pair_below, lock_rises, rises, unknown, width, may_follow, arc_in_range, in_range, first_fault, fault}
 use Rattle.model.proofs.Plan.{rising-last, ranged-first, lock-ranged, arc_ranged, or_else, or_else-none, next-append}
+use Rattle.std.specs.Prelude as rust
 use Rattle.plan.specs.declared.Plan.{Plan}
+use Rattle.plan.specs.declared.Fault.{Fault}
 use Rattle.plan.specs.declared.Reading.{Reading}
-use Rattle.plan.specs.declared.Task.{Task}
-use Rattle.plan.specs.declared.Outcome.{Outcome}
-use Rattle.plan.specs.View.{empty_task, task_view, tasks_of, label_count, pair_count, arc_at, arcs_below, arcs_in, next_of, reading_of, rises_in, fault_in, plan_of, answer_with, Sized, Locks, Within, Holds}
+use Rattle.plan.specs.declared.tasks.Task.{Task}
+use Rattle.plan.specs.declared.tasks.TaskList.{TaskList}
+use Rattle.plan.specs.View.{answer_of, empty_task, task_view, tasks_of, label_count, pair_count, arc_at, arcs_below, arcs_in, next_of, reading_of, rises_in, fault_in, list_of, Within, Holds}
 
 -- as many tasks as the count says
 pub tasks-length : (ts : List Task) (n : ℕ) → n ≤ length ts → length (tasks_of ts n) ≡ n
 tasks-length ts n h = length-map (take n ts) task_view ∙ length-take-le n ts h
 
-pub tasks-size : (p : Plan) → Sized p → length (plan_of p).tasks ≡ p.count
-tasks-size p z = tasks-length p.tasks p.count (omega (arith, z.fits, z.room))
+pub tasks-size : (t : TaskList) → length (list_of t) ≡ t.count
+tasks-size t = tasks-length t.list t.count (omega (arith, t.room, t.fits))
 
 -- the model's task at a place
 pub task-given : (ts : List Task) (n i : ℕ) → i < n → task_view (get_or ts i empty_task) ≡ get_or (tasks_of ts n) i (task_view empty_task)
 task-given ts n i h = sym (get_or-map task_view (take n ts) i empty_task ∙ ap task_view (get_or-take n ts i empty_task h))
-
-pub task-count : (r : Reading) → Within r → length (tasks_of r.tasks r.count) ≡ r.count
-task-count r w = tasks-length r.tasks r.count (omega arith)
 
 -- a store of the same task, locked, among the tasks given
 pub lock-stored : (ts : List Task) (n at : ℕ) (t : Task) → at < n → at < length ts → task_view t ≡ with_lock true (task_view (get_or ts at empty_task)) →
@@ -46,65 +45,42 @@ lock-stored (x ∷ ts) (suc n) zero t h k e = ap (λ (u : model.Task). u ∷ tas
 lock-stored (x ∷ ts) (suc n) (suc at) t h k e = ap (λ (us : List model.Task). task_view x ∷ us) (lock-stored ts n at t (omega (arith, h)) (omega (arith, k)) e)
 
 -- one more task, which is not locked
-pub locks-task : (ts : List Task) (n lock : ℕ) (t : Task) → n < length ts → t.locked ≡ false → Locks ts n lock → Locks (set ts n t) (n + 1) lock
-locks-task ts n lock t fits free h = record {
-  within = omega (arith, h.within);
-  above = λ k g. go k g (eqb k n) refl;
-  below = λ m e. ap (λ (u : Task). u.locked) (get_or-set_other ts n m t empty_task (omega (arith, h.within))) ∙ h.below m e;
-}
+pub locks-task : (ts : List model.Task) (t : model.Task) → t.locked ≡ false → (from : ℕ) → any_locked (drop from (ts ++ (t ∷ []))) ≡ any_locked (drop from ts)
+locks-task [] t e zero = ap (λ (b : Bool). b || false) e
+locks-task [] t e (suc from) = ap any_locked (drop-nil from)
+locks-task (u ∷ ts) t e zero = ap (λ (b : Bool). u.locked || b) (locks-task ts t e 0)
+locks-task (u ∷ ts) t e (suc from) = locks-task ts t e from
+
+ltb_suc : (a b : ℕ) → ltb a b ≡ ltb (suc a) (suc b)
+ltb_suc a b = go (ltb a b) refl
   where
-    go : (k : ℕ) → lock ≤ k → (b : Bool) → eqb k n ≡ b → (get_or (set ts n t) k empty_task).locked ≡ false
-    go k g true is =
-        ap (λ (j : ℕ). (get_or (set ts n t) j empty_task).locked) (eqb-true k n is) ∙ ap (λ (u : Task). u.locked) (get_or-set_same ts n t empty_task fits) ∙ free
-    go k g false is = ap (λ (u : Task). u.locked) (get_or-set_other ts n k t empty_task (λ e. eqb-false k n is (omega arith))) ∙ h.above k g
+    go : (c : Bool) → ltb a b ≡ c → c ≡ ltb (suc a) (suc b)
+    go true is = sym (lt-ltb (suc a) (suc b) (omega (arith, ltb-true)))
+    go false is = sym (le-ltb (suc a) (suc b) (omega (arith, ltb-false)))
 
--- a task locked, whose number rises
-pub locks-lock : (ts : List Task) (n lock i : ℕ) (t : Task) → lock < i → i ≤ n → n ≤ length ts → t.locked ≡ true → Locks ts n lock → Locks (set ts (i - 1) t) n i
-locks-lock ts n lock i t rises fits room shut h = record {
-  within = fits;
-  above = λ k g. ap (λ (u : Task). u.locked) (get_or-set_other ts (i - 1) k t empty_task (omega arith)) ∙ h.above k (omega arith);
-  below = λ m e.
-      let is : m ≡ i - 1 = omega arith in
-      ap (λ (j : ℕ). (get_or (set ts (i - 1) t) j empty_task).locked) is ∙ ap (λ (u : Task). u.locked) (get_or-set_same ts (i - 1) t empty_task (omega arith)) ∙ shut;
-}
-
--- tasks of which none from a place on is locked
-none_from : (ts : List Task) (n from : ℕ) → ((k : ℕ) → from ≤ k → (get_or ts k empty_task).locked ≡ false) → any_locked (drop from (tasks_of ts n)) ≡ false
-none_from ts zero from h = ap any_locked (drop-nil from)
-none_from [] (suc n) from h = ap any_locked (drop-nil from)
-none_from (t ∷ ts) (suc n) zero h = ap₂ ◌||◌ (h 0 (omega arith)) (none_from ts n 0 (λ k g. h (suc k) (omega arith)))
-none_from (t ∷ ts) (suc n) (suc from) h = none_from ts n from (λ k g. h (suc k) (omega arith))
-
--- tasks of which one from a place on is locked
-one_from : (ts : List Task) (n from m : ℕ) → from ≤ m → m < n → (get_or ts m empty_task).locked ≡ true → any_locked (drop from (tasks_of ts n)) ≡ true
-one_from [] n from m h k e = absurd (false≢true e)
-one_from (t ∷ ts) zero from m h k e = absurd (omega (arith, k))
-one_from (t ∷ ts) (suc n) zero zero h k e = ap (λ (b : Bool). b || any_locked (tasks_of ts n)) e
-one_from (t ∷ ts) (suc n) zero (suc m) h k e =
-    ap (λ (b : Bool). t.locked || b) (one_from ts n 0 m (omega arith) (omega (arith, k)) e) ∙ or-true t.locked
-one_from (t ∷ ts) (suc n) (suc from) zero h k e = absurd (omega (arith, h))
-one_from (t ∷ ts) (suc n) (suc from) (suc m) h k e = one_from ts n from m (omega (arith, h)) (omega (arith, k)) e
-
--- some task from a place on is locked where the last lock is above the place
-locked-from : (r : Reading) → Within r → (from : ℕ) → any_locked (drop from (tasks_of r.tasks r.count)) ≡ ltb from r.lock
-locked-from r w from = go r.lock refl (ltb from r.lock) refl
-  where
-    go : (lock : ℕ) → r.lock ≡ lock → (b : Bool) → ltb from r.lock ≡ b → any_locked (drop from (tasks_of r.tasks r.count)) ≡ b
-    go lock is false h = none_from r.tasks r.count from (λ k g. w.locks.above k (omega (arith, ltb-false)))
-    go zero is true h = absurd (omega (arith, ltb-true))
-    go (suc m) is true h = one_from r.tasks r.count from m (omega (arith, ltb-true)) (omega (arith, w.locks.within)) (w.locks.below m is)
+-- a task locked, where none after it is
+pub locks-lock : (ts : List model.Task) (at : ℕ) → at < length ts → ((from : ℕ) → at < from → any_locked (drop from ts) ≡ false) →
+    (from : ℕ) → any_locked (drop from (lock_at ts at)) ≡ ltb from (suc at)
+locks-lock [] at h free from = absurd (omega (arith, h))
+locks-lock (t ∷ ts) zero h free zero = sym (lt-ltb 0 1 (omega arith))
+locks-lock (t ∷ ts) zero h free (suc from) = free (suc from) (omega arith) ∙ sym (le-ltb (suc from) 1 (omega arith))
+locks-lock (t ∷ ts) (suc at) h free zero =
+    ap (λ (b : Bool). t.locked || b) (locks-lock ts at (omega (arith, h)) (λ k g. free (suc k) (omega arith)) 0 ∙ lt-ltb 0 (suc at) (omega arith))
+    ∙ or-true t.locked
+    ∙ sym (lt-ltb 0 (suc (suc at)) (omega arith))
+locks-lock (t ∷ ts) (suc at) h free (suc from) = locks-lock ts at (omega (arith, h)) (λ k g. free (suc k) (omega arith)) from ∙ ltb_suc from (suc at)
 
 -- some task is locked where the last lock is not 0
-pub locked-any : (r : Reading) → Within r → any_locked (tasks_of r.tasks r.count) ≡ not (eqb r.lock 0)
-locked-any r w = locked-from r w 0 ∙ go (eqb r.lock 0) refl
+pub locked-any : (r : Reading) → Within r → any_locked (list_of r.tasks) ≡ not (eqb r.lock 0)
+locked-any r w = w.locks 0 ∙ go (eqb r.lock 0) refl
   where
     go : (b : Bool) → eqb r.lock 0 ≡ b → ltb 0 r.lock ≡ not b
     go true is = le-ltb 0 r.lock (omega (arith, eqb-true))
     go false is = lt-ltb 0 r.lock (omega (arith, eqb-false))
 
 -- a lock's number, from 1, rises where it is above the last one
-pub lock-rises : (r : Reading) → Within r → (i : ℕ) → 1 ≤ i → lock_rises (tasks_of r.tasks r.count) i ≡ ltb r.lock i
-lock-rises r w i h = ap not (locked-from r w (i - 1)) ∙ go (ltb r.lock i) refl
+pub lock-rises : (r : Reading) → Within r → (i : ℕ) → 1 ≤ i → lock_rises (list_of r.tasks) i ≡ ltb r.lock i
+lock-rises r w i h = ap not (w.locks (i - 1)) ∙ go (ltb r.lock i) refl
   where
     go : (b : Bool) → ltb r.lock i ≡ b → not (ltb (i - 1) r.lock) ≡ b
     go true is = ap not (le-ltb (i - 1) r.lock (omega (arith, ltb-true)))
@@ -158,7 +134,7 @@ least-rises next (suc m) h s l low = ap (λ (as' : List Arc). rising as' s l) (a
 -- an arc in range has a label of the table
 pub label-low : (e : Edition) (r : Reading) (arcs : List Arc) (c x y z : ℕ) → Within r → in_range e (reading_of r arcs) c x y z ≡ true → c ≡ 4 → y < label_count
 label-low e r arcs c x y z w h is =
-    lt_of_lt_of_le (subst (λ (n : ℕ). y < 2 ^ n) (task-count r w) (arc_ranged e _ _ _ _ _ is h).1) (pow_mono w.fits)
+    lt_of_lt_of_le (subst (λ (n : ℕ). y < 2 ^ n) (tasks-size r.tasks) (arc_ranged e _ _ _ _ _ is h).1) (pow_mono r.tasks.fits)
 
 -- where the operands are in range, the least pair tells whether an arc's rises, and the last lock whether a lock's number does
 from-least : (e : Edition) (r : Reading) (next : List ℕ) (c x y z : ℕ) → Within r → Holds next r.least →
@@ -167,7 +143,7 @@ from-least e r next c x y z w h g = go (eqb c 4) (eqb c 9) refl refl
   where
     go : (a b : Bool) → eqb c 4 ≡ a → eqb c 9 ≡ b →
         cond a (leb r.least (x * label_count + y)) (cond b (ltb r.lock x) true)
-        ≡ cond a (rising (arcs_in next) x y) (cond b (lock_rises (tasks_of r.tasks r.count) x) true)
+        ≡ cond a (rising (arcs_in next) x y) (cond b (lock_rises (list_of r.tasks) x) true)
     go true b is k = sym (least-rises next r.least h x y (label-low e r (arcs_in next) c x y z w g (eqb-true c 4 is)))
     go false true is k = sym (lock-rises r w x (lock-ranged e (reading_of r (arcs_in next)) c x y z (eqb-true c 9 k) g).0)
     go false false is k = refl
@@ -282,6 +258,6 @@ pub next_past_table : (next : List ℕ) (s l : ℕ) → label_count ≤ l → ne
 unfolding arcs_in
 next_past_table next s l h = next_past next pair_count s l h
 
--- what was read, where the outcome is known
-pub read_as : {o u : Outcome} {a : model.PlanAnswer} (P : model.Plan) → answer_with o P ≡ a → o ≡ u → a ≡ answer_with u P
-read_as P e k = sym e ∙ ap (λ (v : Outcome). answer_with v P) k
+-- what was read, where the answer is known
+pub read_as : {r u : rust.Result Plan Fault} {a : model.PlanAnswer} → answer_of r ≡ a → r ≡ u → a ≡ answer_of u
+read_as e k = sym e ∙ ap answer_of k

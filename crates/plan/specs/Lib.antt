@@ -1,1 +1,2 @@
+pub mod Tasks
 pub mod View

@@ -1,19 +1,23 @@
 -- What the reader's structs and enums stand for.
-use Rattle.std.specs.Prelude.{◌≡◌, ◌⊎◌, Bool, true, false, cond, List, [], ◌∷◌, ◌++◌, map, ℕ, zero, suc, ◌+◌, ◌*◌, ◌/◌, ◌%◌, ◌^◌, ◌<◌, ◌≤◌, leb, ltb, eqb, length, get_or, take, replicate}
+use Rattle.std.specs.Prelude.{◌≡◌, ◌⊎◌, Bool, true, false, cond, List, [], ◌∷◌, ◌++◌, map, ℕ, zero, suc, ◌+◌, ◌*◌, ◌/◌, ◌%◌, ◌^◌, ◌<◌, ◌≤◌, leb, ltb, eqb, length, get_or, take, drop, replicate}
 use Rattle.std.proofs.Math.Option.{Option, none, some}
 use Rattle.model.specs.Edition.{Edition}
 use Rattle.model.specs.Limits.{max_tasks, max_states}
 use Rattle.model.specs.Refusals.{bytes_end, unknown_command, out_of_place, out_of_range}
 use Rattle.model.specs.Plan as model
 use Rattle.node.specs.declared.Edition as node
-use Rattle.plan.specs.declared.Task.{Task}
+use Rattle.std.specs.Prelude as rust
+use Rattle.std.specs.Prelude.{Ok, Err, None, Some, ◌≢◌}
+pub use Rattle.plan.specs.Tasks.{empty_task, task_view}
+use Rattle.plan.specs.declared.tasks.Task.{Task}
+use Rattle.plan.specs.declared.tasks.TaskList.{TaskList}
 use Rattle.plan.specs.declared.Plan.{Plan}
+use Rattle.plan.specs.declared.Command.{Command}
+use Rattle.plan.specs.declared.Command.TheVariants as command
+use Rattle.plan.specs.declared.Operation.{Operation}
 use Rattle.plan.specs.declared.Reading.{Reading}
-use Rattle.plan.specs.declared.PlanRead.{PlanRead}
 use Rattle.plan.specs.declared.Fault.{Fault}
 use Rattle.plan.specs.declared.Fault.TheVariants.{BytesEnd, UnknownCommand, OutOfPlace, OutOfRange}
-use Rattle.plan.specs.declared.Outcome.{Outcome}
-use Rattle.plan.specs.declared.Outcome.TheVariants.{Sound, Faulty}
 
 -- an edition that the reader knows: V is one byte or two
 abbrev pub Legible : node.Edition → Type 0
@@ -26,20 +30,20 @@ fault_number UnknownCommand = unknown_command
 fault_number OutOfPlace = out_of_place
 fault_number OutOfRange = out_of_range
 
--- the number of the fault found, 0 for none
-abbrev pub check_number : Outcome → ℕ
-check_number Sound = 0
-check_number (Faulty f) = fault_number f
-
--- what stands past the tasks given
-abbrev pub empty_task : Task
-empty_task = record { work = 0; window = 0; value = 0; locked = false }
-
-abbrev pub task_view : Task → model.Task
-task_view t = record { work = t.work; window = t.window; value = t.value; locked = t.locked }
+-- the byte of each command
+abbrev pub command_number : Command → ℕ
+command_number command.Task = 1
+command_number command.Policy = 2
+command_number command.States = 3
+command_number command.Arc = 4
+command_number command.End = 5
+command_number command.Lock = 9
 
 abbrev pub tasks_of : List Task → ℕ → List model.Task
 tasks_of ts n = map task_view (take n ts)
+
+abbrev pub list_of : TaskList → List model.Task
+list_of t = tasks_of t.list t.count
 
 -- the labels of a state, and all pairs of a state and a label
 abbrev pub label_count : ℕ
@@ -65,6 +69,11 @@ arcs_in next = arcs_below next pair_count
 pub record StatesFit (next : List ℕ) : Type 0 where
   pub to : (s l t : ℕ) → model.next_in (arcs_in next) s l ≡ some t → t < max_states
 
+-- a table of next states for so many tasks: it admits labels of these alone, and leads to states
+pub record TableFits (next : List ℕ) (count : ℕ) : Type 0 where
+  pub states : StatesFit next
+  pub labels : (s l t : ℕ) → model.next_in (arcs_in next) s l ≡ some t → l < 2 ^ count
+
 -- the next state that an entry of the table stands for
 abbrev pub next_of : ℕ → Option ℕ
 next_of zero = none
@@ -76,15 +85,25 @@ entry_of none = 0
 entry_of (some t) = suc t
 
 abbrev pub plan_of : Plan → model.Plan
-plan_of p = record { tasks = tasks_of p.tasks p.count; policy = p.policy; states = p.states; arcs = arcs_in p.next }
+plan_of p = record { tasks = list_of p.tasks; policy = p.policy; states = p.states; arcs = arcs_in p.next }
+
+-- the policy, or the number of states, that has been read, 0 where it is not given yet
+abbrev pub given_in : rust.Option ℕ → ℕ
+given_in None = 0
+given_in (Some n) = n
 
 -- the reading, with the arcs that stand beside it in the table
 abbrev pub reading_of : Reading → List model.Arc → model.Reading
-reading_of r arcs = record { tasks = tasks_of r.tasks r.count; policy = r.policy; states = r.states; arcs = arcs; ended = r.ended }
+reading_of r arcs = record { tasks = list_of r.tasks; policy = given_in r.policy; states = given_in r.states; arcs = arcs; ended = r.ended }
 
 -- before the first command
-abbrev pub nothing_read : Reading
-nothing_read = record { tasks = replicate max_tasks empty_task; count = 0; lock = 0; policy = 0; states = 0; least = 0; ended = false }
+pub record NothingRead (r : Reading) : Type 0 where
+  pub tasks : list_of r.tasks ≡ []
+  pub lock : r.lock ≡ 0
+  pub policy : r.policy ≡ None
+  pub states : r.states ≡ None
+  pub least : r.least ≡ 0
+  pub ended : r.ended ≡ false
 
 -- a table without an arc
 abbrev pub empty_table : List ℕ
@@ -100,48 +119,30 @@ fault_in e r left c x y z =
     model.first_fault r.ended (model.unknown e c) (model.may_follow (reading_of r []) c) (ltb left (model.width e c))
     (model.in_range e (reading_of r []) c x y z) (rises_in r c x y)
 
--- the answer of an outcome, where a plan without a fault is this one
-abbrev pub answer_with : Outcome → model.Plan → model.PlanAnswer
-answer_with Sound P = model.sound P
-answer_with (Faulty f) P = model.faulty (fault_number f)
+-- that of a command and its operands, which are the next bytes
+abbrev pub fault_here : Edition → Reading → ℕ → List ℕ → ℕ
+fault_here e r c bs = fault_in e r (length bs + 1) c (get_or bs 0 0) (get_or bs 1 0) (model.last_operand e c bs)
+
+-- the command c with its operands, which are the next bytes
+pub record IsOperation (e : Edition) (c : ℕ) (bs : List ℕ) (g : Operation) : Type 0 where
+  pub command : command_number g.command ≡ c
+  pub x : g.x ≡ get_or bs 0 0
+  pub y : g.y ≡ get_or bs 1 0
+  pub z : g.z ≡ model.last_operand e c bs
 
 -- what the reader answers
-abbrev pub answer_of : PlanRead → model.PlanAnswer
-answer_of a = answer_with a.outcome (plan_of a.plan)
+abbrev pub answer_of : rust.Result Plan Fault → model.PlanAnswer
+answer_of (Ok p) = model.sound (plan_of p)
+answer_of (Err f) = model.faulty (fault_number f)
 
--- an outcome, with the plan that has been read
-abbrev pub answered : Outcome → Reading → List ℕ → PlanRead
-answered o r next =
-    record { outcome = o; plan = record { tasks = r.tasks; count = r.count; policy = r.policy; states = r.states; next = next } }
-
--- a fault, with the empty plan
-abbrev pub refusal : Fault → PlanRead
-refusal f = answered (Faulty f) nothing_read empty_table
-
--- the plan beside a fault is the empty one
-pub record FaultAlone (a : PlanRead) : Type 0 where
-  pub empty : (f : Fault) → a.outcome ≡ Faulty f → a ≡ refusal f
-
--- the parts of a plan have their sizes, and no task stands past the count
-pub record Sized (p : Plan) : Type 0 where
-  pub fits : p.count ≤ max_tasks
-  pub room : length p.tasks ≡ max_tasks
-  pub spare : (k : ℕ) → p.count ≤ k → get_or p.tasks k empty_task ≡ empty_task
-  pub table : length p.next ≡ pair_count
-
--- no task from the place `lock` on is locked, and the one before it is
-pub record Locks (ts : List Task) (count lock : ℕ) : Type 0 where
-  pub within : lock ≤ count
-  pub above : (k : ℕ) → lock ≤ k → (get_or ts k empty_task).locked ≡ false
-  pub below : (m : ℕ) → lock ≡ suc m → (get_or ts m empty_task).locked ≡ true
-
--- the counts are within their limits, no task stands past the count, and the last lock is the tasks'
+-- tasks from a place on are locked where the last lock is above it; the states are within their limit, no policy is 0, it is given before them, and
+-- they before the end
 pub record Within (r : Reading) : Type 0 where
-  pub fits : r.count ≤ max_tasks
-  pub room : length r.tasks ≡ max_tasks
-  pub spare : (k : ℕ) → r.count ≤ k → get_or r.tasks k empty_task ≡ empty_task
-  pub locks : Locks r.tasks r.count r.lock
-  pub states : r.states ≤ max_states
+  pub locks : (from : ℕ) → model.any_locked (drop from (list_of r.tasks)) ≡ ltb from r.lock
+  pub states : (m : ℕ) → r.states ≡ Some m → (1 ≤ m) × (m ≤ max_states)
+  pub some : (p : ℕ) → r.policy ≡ Some p → 1 ≤ p
+  pub policy : (m : ℕ) → r.states ≡ Some m → r.policy ≢ None
+  pub end : r.ended ≡ true → r.states ≢ None
 
 -- the table has no arc from the least pair on, and one just below it
 pub record Holds (next : List ℕ) (least : ℕ) : Type 0 where
@@ -150,33 +151,16 @@ pub record Holds (next : List ℕ) (least : ℕ) : Type 0 where
   pub above : (k : ℕ) → least ≤ k → get_or next k 0 ≡ 0
   pub below : (m : ℕ) → least ≡ suc m → get_or next m 0 ≡ 0 → ⊥
 
--- a command c that may be read, with its first operand
-pub record Readable (r : Reading) (c x : ℕ) : Type 0 where
+-- a command that may be read: it has no fault in some edition, with some bytes left
+pub record Readable (r : Reading) (next : List ℕ) (c x y z : ℕ) : Type 0 where
   pub within : Within r
-  pub going : r.ended ≡ false
-  pub known : ((1 ≤ c) × (c ≤ 5)) ⊎ (c ≡ 9)
-  pub room : c ≡ 1 → r.count < max_tasks
-  pub states : c ≡ 3 → x ≤ max_states
-  pub lock : c ≡ 9 → (r.lock < x) × (x ≤ r.count)
-
--- an arc that may be read
-pub record ReadableArc (r : Reading) (next : List ℕ) (s l t : ℕ) : Type 0 where
-  pub within : Within r
-  pub going : r.ended ≡ false
   pub holds : Holds next r.least
-  pub from : s < max_states
-  pub label : l < label_count
-  pub to : t < max_states
-  pub rises : r.least ≤ s * label_count + l
+  pub edition : Edition
+  pub left : ℕ
+  pub passes : model.fault edition (reading_of r (arcs_in next)) left c x y z ≡ 0
 
 -- the reading n and the table after a command are those before it with the command read
 pub record Reads (r n : Reading) (before after : List ℕ) (c x y z : ℕ) : Type 0 where
   pub within : Within n
   pub holds : Holds after n.least
   pub reading : reading_of n (arcs_in after) ≡ model.after (reading_of r (arcs_in before)) c x y z
-
--- the same for a command that leaves the table as it is
-pub record ReadsAside (r n : Reading) (c x y z : ℕ) : Type 0 where
-  pub within : Within n
-  pub least : n.least ≡ r.least
-  pub reading : (arcs : List model.Arc) → reading_of n arcs ≡ model.after (reading_of r arcs) c x y z

@@ -1,15 +1,19 @@
 // The plan reader: plan bytes in, the plan as a struct by value out, or the fault.
 #![tactic(auto)]
 
-ghost use Rattle.std.specs.Prelude.{◌≡◌, not, ℕ, ◌+◌, ◌*◌, ◌^◌, ◌<◌, ◌≤◌, [], length, get_or, drop, map, ◌⊎◌};
+mod tasks; // tasks.rt: a plan's tasks
+
+ghost use Rattle.std.specs.Prelude.{◌≡◌, ℕ, ◌+◌, ◌*◌, ◌^◌, ◌<◌, ◌≤◌, [], get_or, map, ◌⊎◌, true, false, MatchResult};
 ghost use Rattle.model.specs.Bytes.{number};
+ghost use Rattle.model.specs.Options.{option_of};
 ghost use Rattle.model.specs.Lists.{up_from};
-ghost use Rattle.model.specs.Plan.{next_in, unknown, width, last_operand, may_follow, between, task_in_range, arc_in_range, in_range, first_fault, read_plan, read_plan_in};
+ghost use Rattle.model.specs.Plan.{next_in, unknown, width, last_operand, may_follow, between, task_in_range, arc_in_range, in_range, at_end, read_plan, read_plan_in};
 ghost use Rattle.node.specs.Edition.{edition_of};
-ghost use Rattle.model.specs.Limits.{max_tasks, max_states};
-ghost use Rattle.plan.specs.View.{fault_number, check_number, answer_of, reading_of, nothing_read, empty_table, arcs_in, next_of, label_count, rises_in, fault_in, answered, refusal, FaultAlone, Sized, Legible, Within, Holds, Readable, ReadableArc, Reads, ReadsAside};
+ghost use Rattle.model.specs.Limits.{max_states};
+ghost use Rattle.plan.specs.View.{fault_number, command_number, answer_of, reading_of, NothingRead, empty_table, arcs_in, label_count, rises_in, fault_here, Legible, IsOperation, Within, Readable, Reads};
 
 use node::{Edition, Node};
+pub use tasks::{Task, TaskList};
 
 const MAX_TASKS: usize = Node::MAX_TASKS;
 
@@ -20,20 +24,11 @@ pub const LABELS: usize = 1 << MAX_TASKS;
 
 pub const PAIRS: usize = Node::MAX_STATES * LABELS;
 
-#[derive(Clone, Copy)]
-pub struct Task {
-    pub work: u8,
-    pub window: u8,
-    pub value: u16,
-    pub locked: bool,
-}
-
-// A sound plan: the first `count` tasks, the policy, the number of states, and for the state S and the
-// label L, at 16 S + L, the next state and 1, or 0 where the label is not admitted.
+// A sound plan: the tasks, the policy, the number of states, and for the state S and the label L, at 16 S + L, the next state and 1, or 0 where
+// the label is not admitted. The policy is a number, since `plan_bytes::write_in` writes a plan with any.
 #[derive(Clone, Copy)]
 pub struct Plan {
-    pub tasks: [Task; MAX_TASKS],
-    pub count: usize,
+    pub tasks: TaskList,
     pub policy: u8,
     pub states: u8,
     pub next: [u8; PAIRS],
@@ -41,12 +36,12 @@ pub struct Plan {
 
 // Faults of a plan: bytes that end too early, an unknown command, a command out of place, an operand
 // out of range.
-#[derive(Clone, Copy)]
+#[derive(Clone, Copy, Debug, PartialEq, Eq)]
 pub enum Fault {
-    BytesEnd,
-    UnknownCommand,
-    OutOfPlace,
-    OutOfRange,
+    BytesEnd = 1,
+    UnknownCommand = 2,
+    OutOfPlace = 3,
+    OutOfRange = 4,
 }
 
 impl Fault {
@@ -54,52 +49,67 @@ impl Fault {
     pub fn number(self) -> u64
         ensures { result ≡ fault_number self }
     {
-        match self {
-            Fault::BytesEnd => 1,
-            Fault::UnknownCommand => 2,
-            Fault::OutOfPlace => 3,
-            Fault::OutOfRange => 4,
-        }
+        self as u64
     }
 }
 
-#[derive(Clone, Copy)]
-pub enum Outcome {
-    Sound,
-    Faulty(Fault),
+// The commands of a plan's bytes.
+#[derive(Clone, Copy, Debug, PartialEq, Eq)]
+enum Command {
+    Task = 1,
+    Policy = 2,
+    States = 3,
+    Arc = 4,
+    End = 5,
+    Lock = 9,
 }
 
-// The plan is the empty one where the outcome is a fault.
+// A command with its operands. The bytes stand for x and y whether the command has them or not; z is 0 where it has none.
 #[derive(Clone, Copy)]
-pub struct PlanRead {
-    pub outcome: Outcome,
-    pub plan: Plan,
+struct Operation {
+    command: Command,
+    x: u8,
+    y: u8,
+    z: u16,
 }
 
-// What the commands read so far say. The first `count` tasks are given, the others are 0; `lock` is the number of the last
-// task locked, 0 for none; 0 stands for a policy or a number of states not given yet; the next arc's 16 S + L must be
-// `least` or more.
+// What the commands read so far say: `lock` is the number of the last task locked, 0 for none; the next arc's 16 S + L must be `least` or more.
 #[derive(Clone, Copy)]
 struct Reading {
-    tasks: [Task; MAX_TASKS],
-    count: usize,
+    tasks: TaskList,
     lock: u8,
-    policy: u8,
-    states: u8,
+    policy: Option<u8>,
+    states: Option<u8>,
     least: usize,
     ended: bool,
 }
 
-// How many bytes a command takes.
-fn width_of(edition: Edition, c: u8) -> usize
-    requires { Legible edition }
-    ensures { result ≡ width (edition_of edition) c }
+// The command that a byte is in an edition.
+fn command_of(edition: Edition, c: u8) -> Result<Command, Fault>
+    ensures { MatchResult result (λ k. (command_number k ≡ c) × (unknown (edition_of edition) c ≡ false)) (λ f. (f ≡ Fault.UnknownCommand) × (unknown (edition_of edition) c ≡ true)) }
 {
     match c {
-        1 => 3 + edition.value_width,
-        4 => 4,
-        5 => 1,
-        _ => 2,
+        1 => Ok(Command::Task),
+        2 => Ok(Command::Policy),
+        3 => Ok(Command::States),
+        4 => Ok(Command::Arc),
+        5 => Ok(Command::End),
+        9 if edition.locks => Ok(Command::Lock),
+        _ => Err(Fault::UnknownCommand),
+    }
+}
+
+// How many bytes a command takes.
+#[tactic(auto, unfolding(model::specs::Plan::width))]
+fn width_of(edition: Edition, c: Command) -> usize
+    requires { Legible edition }
+    ensures { result ≡ width (edition_of edition) (command_number c) }
+{
+    match c {
+        Command::Task => 3 + edition.value_width,
+        Command::Arc => 4,
+        Command::End => 1,
+        Command::Policy | Command::States | Command::Lock => 2,
     }
 }
 
@@ -123,105 +133,80 @@ fn number_at(s: &[u8], at: usize, width: usize) -> u16
     first * 256 + second
 }
 
-// The last operand, V or T, of the command c whose operands stand at a place; other commands have none.
-fn last_operand(edition: Edition, s: &[u8], at: usize, c: u8) -> u16
-    requires { Legible edition × (at ≤ length s.now) }
-    ensures { result ≡ last_operand (edition_of edition) c (drop at s.now) }
+// The last operand, V or T, of a command whose operands are the next bytes; other commands have none.
+#[tactic(auto, unfolding(model::specs::Plan::last_operand))]
+fn last_operand(edition: Edition, c: Command, s: &[u8]) -> u16
+    requires { Legible edition }
+    ensures { result ≡ last_operand (edition_of edition) (command_number c) s.now }
 {
     match c {
-        1 => number_at(s, at + 2, edition.value_width),
-        4 => number_at(s, at + 2, 1),
-        _ => 0,
+        Command::Task => number_at(s, 2, edition.value_width),
+        Command::Arc => number_at(s, 2, 1),
+        Command::Policy | Command::States | Command::End | Command::Lock => 0,
     }
 }
 
-// Whether a command may follow those read.
-fn may_follow(r: Reading, c: u8) -> bool
-    requires { Within r }
-    ensures { result ≡ may_follow (reading_of r []) c }
+// A command with the operands that the next bytes are.
+fn with_operands(edition: Edition, command: Command, s: &[u8]) -> Operation
+    requires { Legible edition }
+    ensures { IsOperation (edition_of edition) (command_number command) s.now result }
 {
-    let policy = r.policy;
-    let states = r.states;
-    let count = r.count;
-    let lock = r.lock;
+    let x = byte_at(s, 0);
+    let y = byte_at(s, 1);
+    let z = last_operand(edition, command, s);
+    Operation { command, x, y, z }
+}
+
+// Whether a command may follow those read.
+#[tactic(auto, unfolding(model::specs::Plan::may_follow))]
+fn may_follow(r: &Reading, c: Command) -> bool
+    requires { Within r.now }
+    ensures { result ≡ may_follow (reading_of r.now []) (command_number c) }
+{
     match c {
-        1 => if policy != 0 {
-            false
-        } else if lock != 0 {
-            false
-        } else {
-            count < MAX_TASKS
-        },
-        2 | 9 => if policy == 0 { count != 0 } else { false },
-        3 => if policy == 0 { false } else { states == 0 },
-        _ => states != 0,
+        Command::Task => r.policy.is_none() && r.tasks.count < MAX_TASKS && r.lock == 0,
+        Command::Policy | Command::Lock => r.policy.is_none() && r.tasks.count != 0,
+        Command::States => r.policy.is_some() && r.states.is_none(),
+        Command::Arc | Command::End => r.states.is_some(),
     }
 }
 
 // Whether a task's work, window and value are in range.
+#[tactic(auto, unfolding(model::specs::Plan::task_in_range))]
 fn task_in_range(edition: Edition, c: u8, d: u8, v: u16) -> bool
     ensures { result ≡ task_in_range (edition_of edition) c d v }
 {
-    if c < 1 {
-        return false;
-    }
-    if d < c {
-        return false;
-    }
-    if edition.window < d {
-        return false;
-    }
-    if v < 1 {
-        return false;
-    }
-    v <= edition.value
-}
-
-// How many labels a number of tasks has.
-pub fn labels(count: usize) -> usize
-    requires { count ≤ max_tasks }
-    ensures { result ≡ 2 ^ count }
-{
-    1 << count
+    1 <= c && c <= d && d <= edition.window && 1 <= v && v <= edition.value
 }
 
 // Whether an arc's states and label are in range.
-fn arc_in_range(r: Reading, s: u8, l: u8, t: u16) -> bool
-    requires { Within r }
-    ensures { result ≡ arc_in_range (reading_of r []) s l t }
+#[tactic(auto, unfolding(model::specs::Plan::arc_in_range))]
+fn arc_in_range(r: &Reading, s: u8, l: u8, t: u16) -> bool
+    ensures { result ≡ arc_in_range (reading_of r.now []) s l t }
 {
-    let states = r.states;
-    if states <= s {
-        return false;
-    }
-    if labels(r.count) <= l as usize {
-        return false;
-    }
-    t < states as u16
+    let states = r.states.unwrap_or(0);
+    s < states && (l as usize) < r.tasks.labels() && t < states as u16
 }
 
 // Whether a number is from 1 to a limit.
 fn up_to(n: u8, limit: u8) -> bool
     ensures { result ≡ between 1 n limit }
 {
-    if n < 1 {
-        return false;
-    }
-    n <= limit
+    1 <= n && n <= limit
 }
 
 // Whether a command's operands are in range.
-fn in_range(edition: Edition, r: Reading, c: u8, x: u8, y: u8, z: u16) -> bool
-    requires { Within r }
-    ensures { result ≡ in_range (edition_of edition) (reading_of r []) c x y z }
+#[tactic(auto, unfolding(model::specs::Plan::in_range))]
+fn in_range(edition: Edition, r: &Reading, g: Operation) -> bool
+    ensures { result ≡ in_range (edition_of edition) (reading_of r.now []) (command_number g.command) g.x g.y g.z }
 {
-    match c {
-        1 => task_in_range(edition, x, y, z),
-        2 => up_to(x, Node::SP),
-        3 => up_to(x, MAX_STATES),
-        4 => arc_in_range(r, x, y, z),
-        9 => up_to(x, r.count as u8),
-        _ => true,
+    match g.command {
+        Command::Task => task_in_range(edition, g.x, g.y, g.z),
+        Command::Policy => up_to(g.x, Node::SP),
+        Command::States => up_to(g.x, MAX_STATES),
+        Command::Arc => arc_in_range(r, g.x, g.y, g.z),
+        Command::Lock => up_to(g.x, r.tasks.count as u8),
+        Command::End => true,
     }
 }
 
@@ -232,187 +217,109 @@ pub fn pair(s: u8, l: u8) -> usize
     LABELS * s as usize + l as usize
 }
 
-// The next state and 1, or 0 where the label is not admitted in the state.
-pub fn next_state(next: &[u8; PAIRS], s: u8, l: u8) -> u8
+// The state that a label leads to, if it is admitted.
+pub fn next_state(next: &[u8; PAIRS], s: u8, l: u8) -> Option<u8>
     requires { s < max_states }
-    ensures { next_of result ≡ next_in (arcs_in next.now) s l }
+    ensures { option_of result ≡ next_in (arcs_in next.now) s l }
 {
     if LABELS <= l as usize {
-        return 0;
+        return None;
     }
-    let at = pair(s, l);
-    next[at]
+    next[pair(s, l)].checked_sub(1)
 }
 
 // Whether an arc's pair or a lock's number is above those before it; no other command has one.
-fn rises(r: Reading, c: u8, x: u8, y: u8) -> bool
-    ensures { result ≡ rises_in r c x y }
+fn rises(r: &Reading, g: Operation) -> bool
+    ensures { result ≡ rises_in r.now (command_number g.command) g.x g.y }
 {
-    match c {
-        4 => r.least <= pair(x, y),
-        9 => r.lock < x,
-        _ => true,
+    match g.command {
+        Command::Arc => r.least <= pair(g.x, g.y),
+        Command::Lock => r.lock < g.x,
+        Command::Task | Command::Policy | Command::States | Command::End => true,
     }
 }
 
-// Whether an edition has a command.
-fn is_known(edition: Edition, c: u8) -> bool
-    ensures { not result ≡ unknown (edition_of edition) c }
+// The command that a byte is, with its operands, which are the next bytes; or its first fault.
+#[tactic(auto, unfolding(model::specs::Plan::first_fault))]
+fn checked(edition: Edition, r: &Reading, c: u8, s: &[u8]) -> Result<Operation, Fault>
+    requires { Legible edition × Within r.now }
+    ensures { MatchResult result (λ g. IsOperation (edition_of edition) c s.now g × (fault_here (edition_of edition) r.now c s.now ≡ 0)) (λ f. fault_here (edition_of edition) r.now c s.now ≡ fault_number f) }
 {
-    if up_to(c, 5) {
-        return true;
+    if r.ended {
+        return Err(Fault::OutOfPlace);
     }
-    if c != 9 {
-        return false;
+    let command = command_of(edition, c)?;
+    if !may_follow(r, command) {
+        return Err(Fault::OutOfPlace);
     }
-    edition.locks
-}
-
-// The first fault by the tests' results.
-fn first_fault(
-    ended: bool,
-    unknown: bool,
-    follows: bool,
-    short: bool,
-    ranged: bool,
-    rises: bool,
-) -> Outcome
-    ensures { check_number result ≡ first_fault ended unknown follows short ranged rises }
-{
-    if ended {
-        return Outcome::Faulty(Fault::OutOfPlace);
+    if s.len() + 1 < width_of(edition, command) {
+        return Err(Fault::BytesEnd);
     }
-    if unknown {
-        return Outcome::Faulty(Fault::UnknownCommand);
+    let g = with_operands(edition, command, s);
+    if !in_range(edition, r, g) {
+        return Err(Fault::OutOfRange);
     }
-    if !follows {
-        return Outcome::Faulty(Fault::OutOfPlace);
+    if !rises(r, g) {
+        return Err(Fault::OutOfPlace);
     }
-    if short {
-        return Outcome::Faulty(Fault::BytesEnd);
-    }
-    if !ranged {
-        return Outcome::Faulty(Fault::OutOfRange);
-    }
-    if !rises {
-        return Outcome::Faulty(Fault::OutOfPlace);
-    }
-    Outcome::Sound
-}
-
-// The fault of a command with `left` bytes from it on.
-fn fault_of(edition: Edition, r: Reading, left: usize, c: u8, x: u8, y: u8, z: u16) -> Outcome
-    requires { Legible edition × Within r }
-    ensures { check_number result ≡ fault_in (edition_of edition) r left c x y z }
-{
-    let ended = r.ended;
-    let unknown = !is_known(edition, c);
-    let follows = may_follow(r, c);
-    let short = left < width_of(edition, c);
-    let ranged = in_range(edition, r, c, x, y, z);
-    let above = rises(r, c, x, y);
-    first_fault(ended, unknown, follows, short, ranged, above)
-}
-
-// One more task.
-fn with_task(r: Reading, c: u8, d: u8, v: u16) -> Reading
-    requires { Readable r 1 c }
-    ensures { ReadsAside r result 1 c d v }
-{
-    let at = r.count;
-    let mut n = r;
-    n.tasks[at] = Task {
-        work: c,
-        window: d,
-        value: v,
-        locked: false,
-    };
-    n.count = at + 1;
-    n
-}
-
-// The task i, from 1, is locked.
-fn with_lock(r: Reading, i: u8) -> Reading
-    requires { Readable r 9 i }
-    ensures { (y z : ℕ) → ReadsAside r result 9 i y z }
-{
-    let at = i as usize - 1;
-    let tasks = r.tasks;
-    let task = tasks[at];
-    let mut n = r;
-    n.tasks[at] = Task {
-        work: task.work,
-        window: task.window,
-        value: task.value,
-        locked: true,
-    };
-    n.lock = i;
-    n
-}
-
-// What is read once a command that is no arc is.
-fn with_command(r: Reading, c: u8, x: u8, y: u8, z: u16) -> Reading
-    requires { Readable r c x × (c ≡ 4 → ⊥) }
-    ensures { ReadsAside r result c x y z }
-{
-    if c == 1 {
-        return with_task(r, x, y, z);
-    }
-    let mut n = r;
-    if c == 2 {
-        n.policy = x;
-        return n;
-    }
-    if c == 3 {
-        n.states = x;
-        return n;
-    }
-    if c == 9 {
-        return with_lock(r, x);
-    }
-    n.ended = true;
-    n
+    Ok(g)
 }
 
 // One more arc, which goes into the table.
-fn with_arc(r: Reading, next: &mut [u8; PAIRS], s: u8, l: u8, t: u8) -> Reading
-    requires { ReadableArc r next.old s l t }
-    ensures { Reads r result next.old next.new 4 s l t }
+fn with_arc(r: Reading, next: &mut [u8; PAIRS], g: Operation) -> Reading
+    requires { Readable r next.old 4 g.x g.y g.z }
+    ensures { Reads r result next.old next.new 4 g.x g.y g.z }
 {
-    let at = pair(s, l);
-    next[at] = t + 1;
-    let mut n = r;
-    n.least = at + 1;
-    n
+    let at = pair(g.x, g.y);
+    next[at] = g.z as u8 + 1;
+    Reading { least: at + 1, ..r }
 }
 
 // What is read once a command without a fault is.
-fn with_next(r: Reading, next: &mut [u8; PAIRS], c: u8, x: u8, y: u8, z: u16) -> Reading
-    requires { Readable r c x × Holds next.old r.least × (c ≡ 4 → ReadableArc r next.old x y z) }
-    ensures { Reads r result next.old next.new c x y z }
+fn with_command(r: Reading, next: &mut [u8; PAIRS], g: Operation) -> Reading
+    requires { Readable r next.old (command_number g.command) g.x g.y g.z }
+    ensures { Reads r result next.old next.new (command_number g.command) g.x g.y g.z }
 {
-    if c == 4 {
-        return with_arc(r, next, x, y, z as u8);
+    match g.command {
+        Command::Task => {
+            let task = Task {
+                work: g.x,
+                window: g.y,
+                value: g.z,
+                locked: false,
+            };
+            Reading {
+                tasks: r.tasks.with(task),
+                ..r
+            }
+        }
+        Command::Policy => Reading {
+            policy: Some(g.x),
+            ..r
+        },
+        Command::States => Reading {
+            states: Some(g.x),
+            ..r
+        },
+        Command::Arc => with_arc(r, next, g),
+        Command::End => Reading { ended: true, ..r },
+        Command::Lock => Reading {
+            tasks: r.tasks.locked(g.x as usize - 1),
+            lock: g.x,
+            ..r
+        },
     }
-    with_command(r, c, x, y, z)
 }
 
 // The reading before the first command.
 fn nothing_read() -> Reading
-    ensures { result ≡ nothing_read }
+    ensures { NothingRead result }
 {
-    let none = Task {
-        work: 0,
-        window: 0,
-        value: 0,
-        locked: false,
-    };
     Reading {
-        tasks: [none; MAX_TASKS],
-        count: 0,
+        tasks: TaskList::none(),
         lock: 0,
-        policy: 0,
-        states: 0,
+        policy: None,
+        states: None,
         least: 0,
         ended: false,
     }
@@ -425,57 +332,41 @@ pub fn empty_table() -> [u8; PAIRS]
     [0; PAIRS]
 }
 
-// An outcome, with the plan that has been read.
-fn answer(outcome: Outcome, r: Reading, next: [u8; PAIRS]) -> PlanRead
-    ensures { result ≡ answered outcome r next }
+// The plan that has been read, or that bytes end too early.
+fn plan_read(r: Reading, next: [u8; PAIRS]) -> Result<Plan, Fault>
+    requires { Within r }
+    ensures { answer_of result ≡ at_end (reading_of r (arcs_in next)) }
 {
-    let tasks = r.tasks;
-    let plan = Plan {
-        tasks,
-        count: r.count,
-        policy: r.policy,
-        states: r.states,
+    if !r.ended {
+        return Err(Fault::BytesEnd);
+    }
+    Ok(Plan {
+        tasks: r.tasks,
+        policy: r.policy.unwrap(),
+        states: r.states.unwrap(),
         next,
-    };
-    PlanRead { outcome, plan }
-}
-
-// A fault, with the empty plan.
-fn refused(fault: Fault) -> PlanRead
-    ensures { result ≡ refusal fault }
-{
-    answer(Outcome::Faulty(fault), nothing_read(), empty_table())
+    })
 }
 
 // The plan that the bytes of an edition are, or their first fault.
-pub fn read_in(edition: Edition, s: &[u8]) -> PlanRead
+pub fn read_in(edition: Edition, s: &[u8]) -> Result<Plan, Fault>
     requires { Legible edition }
-    ensures { Sized result.plan × (answer_of result ≡ read_plan_in (edition_of edition) s.now) × FaultAlone result }
+    ensures { answer_of result ≡ read_plan_in (edition_of edition) s.now }
 {
     let mut next = empty_table();
     let mut r = nothing_read();
-    let mut at = 0;
-    while at < s.len() {
-        let c = s[at];
-        let x = byte_at(s, at + 1);
-        let y = byte_at(s, at + 2);
-        let z = last_operand(edition, s, at + 1, c);
-        let outcome = fault_of(edition, r, s.len() - at, c, x, y, z);
-        if let Outcome::Faulty(fault) = outcome {
-            return refused(fault);
-        }
-        r = with_next(r, &mut next, c, x, y, z);
-        at += width_of(edition, c);
+    let mut rest = s;
+    while let Some((&c, operands)) = rest.split_first() {
+        let g = checked(edition, &r, c, operands)?;
+        r = with_command(r, &mut next, g);
+        rest = &rest[width_of(edition, g.command)..];
     }
-    if r.ended {
-        return answer(Outcome::Sound, r, next);
-    }
-    refused(Fault::BytesEnd)
+    plan_read(r, next)
 }
 
 // The plan that the bytes of the long-read edition are, or their first fault.
-pub fn read(s: &[u8]) -> PlanRead
-    ensures { Sized result.plan × (answer_of result ≡ read_plan s.now) × FaultAlone result }
+pub fn read(s: &[u8]) -> Result<Plan, Fault>
+    ensures { answer_of result ≡ read_plan s.now }
 {
     read_in(Edition::long_reads(), s)
 }

@@ -2,13 +2,13 @@
 -- Assumes nothing.
 use mathlib.Core.Path.{◌≡◌, sym, ap, ◌∙◌}
 use mathlib.Core.Bool.{Bool, cond}
-use mathlib.Core.List.{List, [], ◌∷◌, ◌++◌, map-append, append_assoc, append-nil}
+use mathlib.Core.List.{List, [], ◌∷◌, ◌++◌, map, map-append, append_assoc, append-nil}
 use Prim.Native.Nat.{ℕ, zero, suc, ◌+◌, ◌-◌, ◌/◌, ◌%◌, ◌≤◌, ◌<◌}
 use native.Mathlib.Nat.{add-zero}
 use native.Mathlib.Numerals.{add-one}
 use native.Mathlib.Omega.{arith}
-use lib.ListN.{length, get_or, take, length-append}
-use lib.Seq.{take-suc}
+use lib.ListN.{length, get_or, take, length-map, length-append}
+use lib.Seq.{take-suc, take_all}
 use Rattle.model.specs.Bytes.{Put}
 use Rattle.model.specs.Edition.{Edition, task_width}
 use Rattle.model.specs.Lists.{flat_map}
@@ -18,9 +18,10 @@ use Rattle.model.proofs.Lists.{flat_map-append}
 use Rattle.model.proofs.Plan.{lock_bytes-append}
 use Rattle.words.proofs.Numbers.{bytes-length}
 use Rattle.words.proofs.Put.{put_then, put_as}
-use Rattle.plan.specs.declared.Task.{Task}
-use Rattle.plan.specs.View.{empty_task, task_view, tasks_of, label_count, arc_at, arcs_below}
-use Rattle.plan.proofs.View.{tasks-length}
+use Rattle.plan.specs.declared.tasks.Task.{Task}
+use Rattle.plan.specs.declared.tasks.TaskList.{TaskList}
+use Rattle.plan.specs.View.{empty_task, task_view, tasks_of, list_of, label_count, arc_at, arcs_below}
+use Rattle.plan.proofs.View.{tasks-length, tasks-size}
 use Rattle.plan_bytes.specs.Sizes.{arc_size}
 
 -- one after another they are the plan's bytes
@@ -81,6 +82,15 @@ lock-fits ts n i h fits =
       length-append (lock_bytes (tasks_of ts i) 1) (lock_bytes (t ∷ []) (i + 1)),
       ap (λ (k : ℕ). length (lock_bytes (tasks_of ts k) 1)) place,
     )
+
+-- ---- the tasks that a slice shows
+
+module _ (ts : List Task) where
+  pub shown : (us : List model.Task) → map task_view ts ≡ us → tasks_of ts (length ts) ≡ us
+  shown us e = ap (map task_view) (take_all (length ts) ts (omega arith)) ∙ e
+
+  pub shown-count : (t : TaskList) → map task_view ts ≡ list_of t → length ts ≡ t.count
+  shown-count t e = sym (length-map ts task_view) ∙ ap length e ∙ tasks-size t
 
 -- ---- written one after another
 

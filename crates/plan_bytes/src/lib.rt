@@ -8,12 +8,12 @@ ghost use Rattle.model.specs.Edition.{task_width, plan_room_in, plan_room};
 ghost use Rattle.model.specs.Lists.{flat_map};
 ghost use Rattle.model.specs.PlanBytes.{task_bytes, lock_bytes, arc_bytes, plan_bytes_in, plan_bytes};
 ghost use Rattle.node.specs.Edition.{edition_of};
-ghost use Rattle.plan.specs.View.{task_view, tasks_of, pair_count, arc_at, arcs_in, plan_of, Legible, Sized};
+ghost use Rattle.plan.specs.View.{task_view, list_of, pair_count, arc_at, arcs_in, plan_of, Legible};
 ghost use Rattle.plan_bytes.specs.Sizes.{arc_size};
 ghost use Rattle.plan_bytes.specs.Locks.{LocksFit};
 
 use node::{Edition, Node};
-use plan::{Plan, Task};
+use plan::{Plan, Task, TaskList};
 
 // The most bytes of a plan of the long-read edition.
 pub const PLAN_ROOM: usize = Node::PLAN_ROOM;
@@ -42,21 +42,14 @@ fn write_task(out: &mut [u8], at: usize, t: Task, edition: Edition) -> usize
     end + 1
 }
 
-// Writes the first `count` tasks.
-fn write_tasks(
-    out: &mut [u8],
-    tasks: [Task; Node::MAX_TASKS],
-    count: usize,
-    edition: Edition,
-) -> usize
-    requires { (count ≤ max_tasks) × (task_width (edition_of edition) * count ≤ length out.old) × Legible edition }
-    ensures { Put out.old out.new 0 (flat_map (task_bytes (edition_of edition)) (tasks_of tasks count)) result × (result ≤ task_width (edition_of edition) * count) }
+// Writes a plan's tasks.
+fn write_tasks(out: &mut [u8], tasks: &TaskList, edition: Edition) -> usize
+    requires { (task_width (edition_of edition) * tasks.now.count ≤ length out.old) × Legible edition }
+    ensures { Put out.old out.new 0 (flat_map (task_bytes (edition_of edition)) (list_of tasks.now)) result × (result ≤ task_width (edition_of edition) * tasks.now.count) }
 {
     let mut end = 0;
-    let mut i = 0;
-    while i < count {
-        end = write_task(out, end, tasks[i], edition);
-        i += 1;
+    for task in tasks.as_slice() {
+        end = write_task(out, end, *task, edition);
     }
     end
 }
@@ -76,16 +69,14 @@ fn write_lock(out: &mut [u8], at: usize, i: usize, t: Task) -> usize
     after + 1
 }
 
-// Writes the locks of the first `count` tasks.
-fn write_locks(out: &mut [u8], at: usize, tasks: [Task; Node::MAX_TASKS], count: usize) -> usize
-    requires { (count ≤ max_tasks) × (at + length (lock_bytes (tasks_of tasks count) 1) ≤ length out.old) }
-    ensures { Put out.old out.new at (lock_bytes (tasks_of tasks count) 1) result }
+// Writes the locks of a plan's tasks.
+fn write_locks(out: &mut [u8], at: usize, tasks: &TaskList) -> usize
+    requires { at + length (lock_bytes (list_of tasks.now) 1) ≤ length out.old }
+    ensures { Put out.old out.new at (lock_bytes (list_of tasks.now) 1) result }
 {
     let mut end = at;
-    let mut i = 0;
-    while i < count {
-        end = write_lock(out, end, i, tasks[i]);
-        i += 1;
+    for (i, task) in tasks.as_slice().iter().enumerate() {
+        end = write_lock(out, end, i, *task);
     }
     end
 }
@@ -109,26 +100,22 @@ fn write_arcs(out: &mut [u8], at: usize, next: &[u8; plan::PAIRS]) -> usize
     ensures { Put out.old out.new at (flat_map arc_bytes (arcs_in next.now)) result × (result ≤ at + arc_size * pair_count) }
 {
     let mut end = at;
-    let mut k = 0;
-    while k < plan::PAIRS {
-        end = write_pair(out, end, k, next[k]);
-        k += 1;
+    for (k, &entry) in next.iter().enumerate() {
+        end = write_pair(out, end, k, entry);
     }
     end
 }
 
 // Writes a plan's bytes in an edition, and gives their number.
 pub fn write_in(plan: Plan, out: &mut [u8], edition: Edition) -> usize
-    requires { Legible edition × Sized plan × LocksFit (edition_of edition) (plan_of plan).tasks × (plan_room_in (edition_of edition) ≤ length out.old) }
+    requires { Legible edition × LocksFit (edition_of edition) (plan_of plan).tasks × (plan_room_in (edition_of edition) ≤ length out.old) }
     ensures value { result ≡ length (plan_bytes_in (edition_of edition) (plan_of plan)) }
     ensures out_after { out.new ≡ overwrite out.old 0 (plan_bytes_in (edition_of edition) (plan_of plan)) }
 {
-    let tasks = plan.tasks;
-    let next = plan.next;
-    let head = write_tasks(out, tasks, plan.count, edition);
-    let locks = write_locks(out, head, tasks, plan.count);
+    let head = write_tasks(out, &plan.tasks, edition);
+    let locks = write_locks(out, head, &plan.tasks);
     let arcs = write_four(out, locks, [0x02, plan.policy, 0x03, plan.states]);
-    let end = write_arcs(out, arcs, &next);
+    let end = write_arcs(out, arcs, &plan.next);
     let size = end + 1;
     out[end] = 0x05;
     size
@@ -136,7 +123,7 @@ pub fn write_in(plan: Plan, out: &mut [u8], edition: Edition) -> usize
 
 // Writes a plan's bytes in the long-read edition, and gives their number.
 pub fn write(plan: Plan, out: &mut [u8]) -> usize
-    requires { Sized plan × (plan_room ≤ length out.old) }
+    requires { plan_room ≤ length out.old }
     ensures value { result ≡ length (plan_bytes (plan_of plan)) }
     ensures out_after { out.new ≡ overwrite out.old 0 (plan_bytes (plan_of plan)) }
 {

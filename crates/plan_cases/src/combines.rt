@@ -5,6 +5,8 @@ ghost use Rattle.model.specs.Combine as model_combine;
 ghost use Rattle.model.specs.PlanBytes.{plan_bytes};
 ghost use Rattle.answer_text.specs.Finish.{result_line};
 
+use std::fs::File;
+
 // Writes what the combine call tells and leaves to standard output, and answers the length of the line.
 fn write_combined(first: &[u8], second: &[u8], out: &mut [u8]) -> usize
     ensures value { result ≡ length (result_line (result_of plan_bytes (model_combine.combine first.now second.now (length out.old)))) }
@@ -15,7 +17,7 @@ fn write_combined(first: &[u8], second: &[u8], out: &mut [u8]) -> usize
 }
 
 // Reads two plans and an output, and writes what the call tells and leaves.
-pub fn combine_case(file: i32) -> usize
+pub fn combine_case(file: &mut File) -> usize
     ensures { (first : List ℕ) × (second : List ℕ) × (room : ℕ) × (result ≡ length (result_line (result_of plan_bytes (model_combine.combine first second room)))) }
 {
     let mut first = io::large_buffer();

@@ -7,8 +7,9 @@ ghost use Rattle.answer_text.specs.Finish.{result_line};
 ghost use Rattle.gap.specs.Groups.{group_of};
 
 use gap::Group;
+use std::fs::File;
 
-// The group that a number names: a set, or a task.
+// The group that a number names: a set, or a task. The contracts go by the flag, which the case's kind gives.
 fn named(number: u64, set: bool) -> Group
     ensures { group_of result ≡ cond set (task_set number) (one_task number) }
 {
@@ -28,7 +29,7 @@ fn write_gap(plan: &[u8], number: u64, set: bool, slots: u64, out: &mut [u8]) ->
 }
 
 // Reads a plan, a task or a set and a gap of eight bytes each, and an output, and writes what the call tells and leaves.
-pub fn gap_case(file: i32, set: bool) -> usize
+pub fn gap_case(file: &mut File, set: bool) -> usize
     ensures { (plan : List ℕ) × (number : ℕ) × (slots : ℕ) × (room : ℕ) × (result ≡ length (result_line (result_of plan_bytes (group_gap plan (cond set (task_set number) (one_task number)) slots room)))) }
 {
     let mut plan = io::large_buffer();

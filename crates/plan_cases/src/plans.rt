@@ -6,7 +6,7 @@ ghost use Rattle.model.specs.Bytes.{Put};
 ghost use Rattle.plan_cases.specs.Lines.{plan_line};
 
 use host::STDOUT;
-use plan::Outcome;
+use std::fs::File;
 
 // Writes the line of a plan, and answers its length.
 fn put_line(out: &mut [u8], s: &[u8]) -> usize
@@ -14,11 +14,9 @@ fn put_line(out: &mut [u8], s: &[u8]) -> usize
     ensures put { Put out.old out.new 0 (plan_line (read_plan s.now)) result }
     ensures prefix_len { IsPrefixLen result out.new }
 {
-    let read = plan::read(s);
-    let outcome = read.outcome;
-    match outcome {
-        Outcome::Sound => text::put_bytes(out, 0, b"sound\n"),
-        Outcome::Faulty(f) => text::put_refusal(out, f.number()),
+    match plan::read(s) {
+        Ok(_) => text::put_bytes(out, 0, b"sound\n"),
+        Err(f) => text::put_refusal(out, f.number()),
     }
 }
 
@@ -33,7 +31,7 @@ fn write_line(plan: &[u8]) -> usize
 }
 
 // Reads a plan and writes its line.
-pub fn plan_case(file: i32) -> usize
+pub fn plan_case(file: &mut File) -> usize
     ensures { (plan : List ℕ) × (result ≡ length (plan_line (read_plan plan))) }
 {
     let mut plan = io::large_buffer();

@@ -7,6 +7,7 @@ ghost use Rattle.model.specs.Trace.{trace};
 ghost use Rattle.plan_cases.specs.Traced.{TracedAs};
 
 use host::STDOUT;
+use std::fs::File;
 
 // Writes the text of a trace, and answers its length.
 fn write_trace(plan: &[u8], labels: &[u8]) -> usize
@@ -19,7 +20,7 @@ fn write_trace(plan: &[u8], labels: &[u8]) -> usize
 }
 
 // Reads a plan and its labels, and writes the text of the trace.
-pub fn trace_case(file: i32) -> usize
+pub fn trace_case(file: &mut File) -> usize
     ensures { (plan : List ℕ) × (labels : List ℕ) × (result ≡ length (trace_text labels (trace plan labels trace_room))) }
 {
     let mut plan = io::large_buffer();
@@ -39,7 +40,7 @@ fn write_traced(plan: &[u8], labels: &[u8], bytes: &[u8], out: &mut [u8]) -> boo
 }
 
 // Reads a plan, its labels, bytes, none where the call refuses, and a number of eight bytes, so many of which are lent, and writes both lines.
-pub fn trace_call_case(file: i32) -> bool
+pub fn trace_call_case(file: &mut File) -> bool
     ensures { (plan labels bytes out out' : List ℕ) × TracedAs plan labels bytes out out' result }
 {
     let mut plan = io::large_buffer();

@@ -16,7 +16,7 @@ use Rattle.model.specs.Lists.{any, list_of, one}
 use Rattle.model.specs.Plan.{Task, Plan}
 use Rattle.model.specs.Slot as model_slot
 use Rattle.model.specs.Slot.{Job, task_of, run_first, ready, slot}
-use Rattle.policy.specs.View.{Tasks, cell_count, slot_cells, task_in, task_at, job_in, jobs_of, Cells, joined_cells, tasks_in, Ruled, Slotted}
+use Rattle.policy.specs.View.{cell_number, Tasks, cell_count, slot_cells, task_in, task_at, job_in, jobs_of, Cells, joined_cells, tasks_in, Ruled, Slotted}
 use Rattle.policy.specs.declared.Done.{Done}
 use Rattle.policy.specs.declared.Rules.{Rules}
 use Rattle.policy.proofs.Cells.{task-cases}
@@ -33,19 +33,19 @@ module _ (r : Rules) (ruled : Ruled r) (cells : List ℕ) (h : Cells (tasks_in r
   js = jobs_of ts cells
 
   abbrev work : ℕ
-  work = get_or (joined_cells ts cells label) d.ran 0
+  work = get_or (joined_cells ts cells label) (cell_number d.ran) 0
 
   -- the value of a job that is there
-  valued : 0 < work → 0 < (task_of P.tasks (task_in d.ran)).value
+  valued : 0 < work → 0 < (task_of P.tasks (task_in (cell_number d.ran))).value
   valued some-work =
-      let fits = (joined-leaves ts cells label ruled.tasks h refl).cells.work d.ran in
-      let is : task_of P.tasks (task_in d.ran) ≡ task_at ts d.ran = ap (λ us. task_of us (task_in d.ran)) same ∙ task-number ts d.ran in
+      let fits = (joined-leaves ts cells label ruled.tasks h refl).cells.work (cell_number d.ran) in
+      let is : task_of P.tasks (task_in (cell_number d.ran)) ≡ task_at ts (cell_number d.ran) = ap (λ us. task_of us (task_in (cell_number d.ran))) same ∙ task-number ts (cell_number d.ran) in
       ⊎_elim
       (λ found. omega (arith, found.1.some_value, ap (λ (t : Task). t.value) is))
       (λ missing. absurd (omega (arith, ap (λ (t : Task). t.work) missing)))
-      (task-cases ts ruled.tasks (d.ran % max_tasks))
+      (task-cases ts ruled.tasks ((cell_number d.ran) % max_tasks))
 
-  gains : d.gain ≡ (run_first P.tasks (ready P js label) (choice_in ts (joined_cells ts cells label) d.ran)).gain
+  gains : d.gain ≡ (run_first P.tasks (ready P js label) (choice_in ts (joined_cells ts cells label) (cell_number d.ran))).gain
   unfolding slot
   gains =
       ap (λ (e : model_slot.Done). e.gain) (slotted.rule P same by)
@@ -54,13 +54,13 @@ module _ (r : Rules) (ruled : Ruled r) (cells : List ℕ) (h : Cells (tasks_in r
   pub finished_shown : finished_bit P js label ≡ one (ltb 0 d.gain)
   finished_shown =
       ap (λ (c : Option Job). one (any (λ j. eqb j.work 1) (list_of c))) (chosen r ruled cells h label d slotted P same by)
-      ∙ go (ltb d.ran slot_cells)
+      ∙ go (ltb (cell_number d.ran) slot_cells)
       ∙ ap (λ (n : ℕ). one (ltb 0 n)) (sym gains)
     where
       job : Job
-      job = job_in ts d.ran work
+      job = job_in ts (cell_number d.ran) work
 
-      paid : (b : Bool) → eqb work 1 ≡ b → one (b || false) ≡ one (ltb 0 (cond b (task_of P.tasks (task_in d.ran)).value 0))
+      paid : (b : Bool) → eqb work 1 ≡ b → one (b || false) ≡ one (ltb 0 (cond b (task_of P.tasks (task_in (cell_number d.ran))).value 0))
       paid true e = ap one (sym (lt-ltb 0 _ (valued (omega (arith, eqb-true work 1 e)))))
       paid false e = refl
 

@@ -22,7 +22,7 @@ use Rattle.model.proofs.Plan.{both}
 use Rattle.model.proofs.Tests.{same_decided, same_number, any_some}
 use Rattle.policy.specs.declared.Rules.{Rules}
 use Rattle.policy.specs.declared.Done.{Done}
-use Rattle.policy.specs.View.{Tasks, cell_count, slot_cells, task_in, left_in, job_in, jobs_of, TasksInRange, Cells, joined_cells, task_number, displaced_task, tasks_in, Ruled, ran_in, Slotted}
+use Rattle.policy.specs.View.{cell_number, Tasks, cell_count, slot_cells, task_in, left_in, job_in, jobs_of, TasksInRange, Cells, joined_cells, task_number, displaced_task, tasks_in, Ruled, ran_in, Slotted}
 use Rattle.policy.proofs.Canonical.{job_cell, cell_job}
 use Rattle.policy.proofs.Cells.{window-low, left-falls, one_cell}
 use Rattle.policy.proofs.Keys.{choice_in}
@@ -148,7 +148,7 @@ module _ (r : Rules) (ruled : Ruled r) (cells : List ℕ) (h : Cells (tasks_in r
   joined = joined_cells ts cells label
 
   -- the job that is chosen, and the row
-  pub chosen : chosen_in P (jobs_of ts cells) label ≡ choice_in ts joined d.ran
+  pub chosen : chosen_in P (jobs_of ts cells) label ≡ choice_in ts joined (cell_number d.ran)
   unfolding ready
   chosen =
       let entered = joined-leaves ts cells label ruled.tasks h refl in
@@ -156,11 +156,11 @@ module _ (r : Rules) (ruled : Ruled r) (cells : List ℕ) (h : Cells (tasks_in r
       ∙ ap (first (key ts r.policy)) (sym entered.jobs)
       ∙ sym (chosen_cell ts r.hold ruled.hold joined entered.cells r.policy ruled.tasks r.left ruled.left slotted.ran).choice
 
-  pub row_shown : (ran : ℕ) → row_of P (ran_in ts ran) (jobs_of ts cells) label ≡ record { ran = task_number d.ran; gain = d.gain; cut = displaced_task cells ran d.ran }
+  pub row_shown : (ran : ℕ) → row_of P (ran_in ts ran) (jobs_of ts cells) label ≡ record { ran = task_number (cell_number d.ran); gain = d.gain; cut = displaced_task cells ran (cell_number d.ran) }
   row_shown ran = λ i. record { ran = task i; gain = (sym (slotted.rule P same by) i).gain; cut = cut i }
     where
-      task : task_or0 (slot P (jobs_of ts cells) label).ran ≡ task_number d.ran
-      task = ap (λ (e : model_slot.Done). task_or0 e.ran) (sym (slotted.rule P same by)) ∙ ran-task ts d.ran
+      task : task_or0 (slot P (jobs_of ts cells) label).ran ≡ task_number (cell_number d.ran)
+      task = ap (λ (e : model_slot.Done). task_or0 e.ran) (sym (slotted.rule P same by)) ∙ ran-task ts (cell_number d.ran)
 
-      cut : task_or0 (displaced_in P (ran_in ts ran) (jobs_of ts cells) label) ≡ displaced_task cells ran d.ran
-      cut = ap (λ c. task_or0 (displaced (ran_in ts ran) (jobs_of ts cells) c)) chosen ∙ displaced-task ts ruled.tasks cells h ran joined d.ran
+      cut : task_or0 (displaced_in P (ran_in ts ran) (jobs_of ts cells) label) ≡ displaced_task cells ran (cell_number d.ran)
+      cut = ap (λ c. task_or0 (displaced (ran_in ts ran) (jobs_of ts cells) c)) chosen ∙ displaced-task ts ruled.tasks cells h ran joined (cell_number d.ran)

@@ -5,7 +5,7 @@ use mathlib.Core.Bool.{Bool, true, false, cond, ◌&&◌, ◌||◌}
 use mathlib.Core.List.{List, [], ◌∷◌, ◌++◌, foldl, foldl-append, append-nil}
 use mathlib.Core.Logic.{◌⊎◌, inl, inr}
 use mathlib.Core.Option.{Option, none, some}
-use Prim.Native.Nat.{ℕ, zero, suc, ◌+◌, ◌-◌, ◌*◌, ◌%◌, ◌≤◌, ◌<◌}
+use Prim.Native.Nat.{ℕ, zero, suc, ◌+◌, ◌-◌, ◌*◌, ◌%◌, ◌≤◌, ◌<◌, min, max}
 use native.Mathlib.Nat.{zero-add, suc-mul, mul-le-mul_right, le_refl}
 use native.Mathlib.Numerals.{add-one}
 use native.Mathlib.Omega.{arith}
@@ -236,3 +236,36 @@ module _ (ts : Tasks) (policy : ℕ) (r : TasksInRange ts) (left : List ℕ) (e 
       (told (least_code codes slot_cells)
       (subst (Best slot_cells (least_code codes slot_cells)) (ap (foldl (sooner (policy_key ts policy)) none) (sym (jobs_sized ts slot_cells cells h.size)))
       (best-to slot_cells (le_refl slot_cells))))
+
+-- the least and the greatest of two numbers, as the definitions have them
+pub least-min : (a b : ℕ) → min a b ≡ cond (ltb b a) b a
+least-min a b = go (ltb b a) refl
+  where
+    go : (c : Bool) → ltb b a ≡ c → min a b ≡ cond c b a
+    go true e = omega (arith, ltb-true b a e)
+    go false e = omega (arith, ltb-false b a e)
+
+pub greatest-max : (a b : ℕ) → max a b ≡ cond (ltb a b) b a
+greatest-max a b = go (ltb a b) refl
+  where
+    go : (c : Bool) → ltb a b ≡ c → max a b ≡ cond c b a
+    go true e = omega (arith, ltb-true a b e)
+    go false e = omega (arith, ltb-false a b e)
+
+-- the cell of the least of n codes is one of the first n
+pub cell-below : (policy : ℕ) (cells left : List ℕ) (n : ℕ) → n ≤ slot_cells → (least_code (code_at policy cells left) n ≡ no_code → ⊥) →
+    least_code (code_at policy cells left) n % places < n
+unfolding least_code code_in
+cell-below policy cells left zero le there = absurd (there refl)
+cell-below policy cells left (suc n) le there =
+    go (ltb (code_at policy cells left n) (least_code (code_at policy cells left) n)) (cell-below policy cells left n (omega arith)) there
+  where
+    coded : (b : Bool) (key : ℕ) → (cond b no_code (key * places + n) ≡ no_code → ⊥) → cond b no_code (key * places + n) % places < suc n
+    coded true key ne = absurd (ne refl)
+    coded false key ne = omega arith
+
+    go : (b : Bool) → ((least_code (code_at policy cells left) n ≡ no_code → ⊥) → least_code (code_at policy cells left) n % places < n) →
+        (cond b (code_at policy cells left n) (least_code (code_at policy cells left) n) ≡ no_code → ⊥) →
+        cond b (code_at policy cells left n) (least_code (code_at policy cells left) n) % places < suc n
+    go true below ne = coded (eqb (get_or cells n 0) 0) (key_in policy n (get_or cells n 0) (get_or left n 0)) ne
+    go false below ne = omega (arith, below ne)

@@ -1,15 +1,19 @@
 -- What the cells of a node's jobs, the rules and a slot's result stand for.
-use Rattle.std.specs.Prelude.{◌≡◌, Bool, cond, not, ◌&&◌, List, [], ◌++◌, map, ℕ, zero, suc, ◌+◌, ◌-◌, ◌*◌, ◌/◌, ◌%◌, ◌<◌, ◌≤◌, eqb, ltb, length, get_or, set}
+use Rattle.std.specs.Prelude.{◌≡◌, Bool, false, cond, not, ◌&&◌, List, [], ◌++◌, map, ℕ, zero, suc, ◌+◌, ◌-◌, ◌*◌, ◌/◌, ◌%◌, ◌<◌, ◌≤◌, eqb, ltb, length, get_or, set}
 use Rattle.std.proofs.Math.Option.{Option, none, some}
 use Rattle.model.specs.Limits.{max_tasks, max_window, max_value}
 use Rattle.model.specs.Lists.{cons_if, flat_map, up_from, bit}
 use Rattle.model.specs.Plan as model
 use Rattle.model.specs.Slot as model_slot
 use Rattle.model.specs.Slot.{Job, JobId, no_task, edf, srt, fifo}
-use Rattle.plan.specs.View.{tasks_of}
+use Rattle.std.specs.Prelude as rust
+use Rattle.std.specs.Prelude.{None, Some}
+use Rattle.plan.specs.View.{list_of}
 use Rattle.plan.specs.declared.Plan.{Plan}
 use Rattle.policy.specs.declared.Rules.{Rules}
 use Rattle.policy.specs.declared.Done.{Done}
+use Rattle.policy.specs.declared.Policy.{Policy}
+use Rattle.policy.specs.declared.Policy.TheVariants.{Edf, Srt, Fifo, Sp}
 
 abbrev pub Tasks : Type 0
 Tasks = List model.Task
@@ -99,6 +103,13 @@ key_in policy k work left =
     (cond (eqb policy fifo) (key_number (max_window - age_in k) (task_in k) 0)
     (key_number 0 (task_in k) left)))
 
+-- the numbers that a policy has
+abbrev pub StandsFor : ℕ → Policy → Type 0
+StandsFor n Edf = n ≡ edf
+StandsFor n Srt = n ≡ srt
+StandsFor n Fifo = n ≡ fifo
+StandsFor n Sp = (eqb n edf ≡ false) × (eqb n srt ≡ false) × (eqb n fifo ≡ false)
+
 -- a key with its cell, which is below places; `no_code` where there is no job
 abbrev pub places : ℕ
 places = 64
@@ -168,11 +179,11 @@ displaced_task cells ran at =
 
 -- the tasks of the rules, and the tables by them
 abbrev pub tasks_in : Rules → Tasks
-tasks_in r = tasks_of r.tasks r.count
+tasks_in r = list_of r.tasks
 
 pub record Ruled (r : Rules) : Type 0 where
   pub tasks : TasksInRange (tasks_in r)
-  pub size : length (tasks_in r) ≡ r.count
+  pub size : length (tasks_in r) ≡ r.tasks.count
   pub left : r.left ≡ left_table (tasks_in r)
   pub hold : r.hold ≡ hold_table (tasks_in r)
 
@@ -184,18 +195,23 @@ pub record PlanFor (P : model.Plan) (r : Rules) : Type 0 where
 -- the rules of a plan
 pub record RulesOf (p : Plan) (r : Rules) : Type 0 where
   pub ruled : Ruled r
-  pub tasks : tasks_in r ≡ tasks_of p.tasks p.count
+  pub tasks : tasks_in r ≡ list_of p.tasks
   pub policy : r.policy ≡ p.policy
+
+-- a cell's number, `slot_cells` for no cell
+abbrev pub cell_number : rust.Option ℕ → ℕ
+cell_number None = slot_cells
+cell_number (Some k) = k
 
 -- which job ran in the cell k, by its slots left after the slot; none from `slot_cells` on
 abbrev pub ran_in : Tasks → ℕ → Option JobId
 ran_in ts k = cond (ltb k slot_cells) (some (record { task = task_in k; left = left_in ts k - 1 })) none
 
 abbrev pub done_of : Tasks → Done → model_slot.Done
-done_of ts d = record { jobs = jobs_of ts d.cells; ran = ran_in ts d.ran; gain = d.gain }
+done_of ts d = record { jobs = jobs_of ts d.cells; ran = ran_in ts (cell_number d.ran); gain = d.gain }
 
 -- what a slot leaves is the rule's, and cells again; a job ran in the cell of the first
 pub record Slotted (r : Rules) (before : List ℕ) (label : ℕ) (d : Done) : Type 0 where
   pub rule : (P : model.Plan) → P.tasks ≡ tasks_in r → P.policy ≡ r.policy → done_of (tasks_in r) d ≡ model_slot.slot P (jobs_of (tasks_in r) before) label
   pub cells : Cells (tasks_in r) cell_count d.cells
-  pub ran : d.ran ≡ first_cell r.policy (runnable_cells (joined_cells (tasks_in r) before label) r.hold) r.left
+  pub ran : cell_number d.ran ≡ first_cell r.policy (runnable_cells (joined_cells (tasks_in r) before label) r.hold) r.left

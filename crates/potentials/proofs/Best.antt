@@ -2,8 +2,9 @@
 use mathlib.Core.Path.{◌≡◌, refl, sym, ap, subst, ◌∙◌}
 use mathlib.Core.List.Memᴰ
 use mathlib.Core.List.{List, map, Memᴰ}
-use Prim.Native.Nat.{ℕ, ◌+◌, ◌-◌, ◌/◌, ◌<◌, ◌≤◌}
+use Prim.Native.Nat.{ℕ, ◌+◌, ◌/◌, ◌<◌, ◌≤◌}
 use native.Mathlib.Omega.{arith}
+use Rattle.std.specs.Prelude.{None}
 use Rattle.model.specs.Graph as model
 use Rattle.model.specs.Graph.{choices, joined, worth, edge_of, edges_at, nodes}
 use Rattle.model.specs.Plan.{Plan}
@@ -26,13 +27,13 @@ use Rattle.potentials.proofs.Greatest.{order-scored, choice_order}
 use Rattle.potentials.proofs.Numbers.{index_below, index-node, index_is}
 use Rattle.potentials.proofs.Expanded.{node-is, edges_none, gained, edges-choices, choice_to, pattern_there, noted_there, there_noted, pattern_small}
 
-module _ {P : Plan} {r : Rules} {next m : List ℕ} {n u : ℕ} {node : Node} {l to : ℕ} where
+module _ {P : Plan} {r : Rules} {next m : List ℕ} {n u : ℕ} {node : Node} {l : ℕ} where
   -- a label that is not admitted has no edge
-  pub no_outcome : Leads P r next m n u node l to → to ≡ 0 → {v : ℕ} {e : model.Edge} → Best P u l v e → ⊥
-  no_outcome t z {e = e} b =
-      Memᴰ.not-nil (subst (Memᴰ e) (ap (λ (w : model.Node). edges_at P w l) (sym (node-is t)) ∙ edges_none t z) b.edge)
+  pub no_outcome : Leads P r next m n u node l None → {v : ℕ} {e : model.Edge} → Best P u l v e → ⊥
+  no_outcome t {e = e} b =
+      Memᴰ.not-nil (subst (Memᴰ e) (ap (λ (w : model.Node). edges_at P w l) (sym (node-is t)) ∙ edges_none t) b.edge)
 
-  module _ {before notes : List ℕ} {d : Noted} (t : Expanded P r next m n u node l to before notes d) where
+  module _ {state : ℕ} {before notes : List ℕ} {d : Noted} (t : Expanded P r next m n u node l state before notes d) where
     abbrev ts : Tasks
     ts = tasks_in r
 
@@ -42,14 +43,14 @@ module _ {P : Plan} {r : Rules} {next m : List ℕ} {n u : ℕ} {node : Node} {l
 
     -- the edge of a choice
     abbrev edge : List ℕ → model.Edge
-    edge ms = edge_of P (node_of ts node) l (to - 1) ms
+    edge ms = edge_of P (node_of ts node) l state ms
 
     -- the node of a pattern, and its number
     abbrev target : ℕ → Node
-    target p = with_pattern d.done.cells (to - 1) p
+    target p = with_pattern d.done.cells state p
 
     abbrev place : ℕ → ℕ
-    place p = place_of m n d.done.cells (to - 1) p
+    place p = place_of m n d.done.cells state p
 
     edges_are : edges_at P (node_at P u) l ≡ map edge (choices ts l node.taken)
     edges_are = ap (λ (w : model.Node). edges_at P w l) (sym (node-is t.leads)) ∙ edges-choices t

@@ -2,12 +2,15 @@
 use mathlib.Core.Path.{◌≡◌, sym, ap, subst, ◌∙◌}
 use mathlib.Core.List.Memᴰ
 use mathlib.Core.List.{List, [], map, Memᴰ}
-use Prim.Native.Nat.{ℕ, ◌-◌, ◌/◌, ◌^◌, ◌<◌}
+use Prim.Native.Nat.{ℕ, ◌/◌, ◌^◌, ◌<◌}
 use native.Mathlib.Omega.{arith}
 use lib.ListN.{length}
+use Rattle.std.specs.Prelude as rust
+use Rattle.std.specs.Prelude.{None}
 use Rattle.model.specs.Graph as model
 use Rattle.model.specs.Graph.{choices, joined, edge_of, edges_to, edges_at, nodes}
 use Rattle.model.specs.Lists.{up_from}
+use Rattle.model.specs.Options.{option_of}
 use Rattle.model.specs.Plan as model_plan
 use Rattle.model.specs.Plan.{Plan, next_in}
 use Rattle.model.specs.Slot as model_slot
@@ -17,8 +20,6 @@ use Rattle.theory.specs.Lightest.{node_at}
 use Rattle.theory.proofs.Edges.{EdgeAt, mem-edges_at, mem-edges}
 use Rattle.theory.proofs.Nodes.{nodes-closed}
 use Rattle.theory.proofs.Sound.{sound-plan, label-below}
-use Rattle.plan.specs.View.{next_of}
-use Rattle.plan.proofs.View.{next-some}
 use Rattle.policy.specs.View.{Tasks, jobs_of, tasks_in}
 use Rattle.policy.specs.declared.Rules.{Rules}
 use Rattle.graph.specs.Outcomes.{pattern_count, Notes, pattern_in, notes_in, noted_of, nothing_noted}
@@ -31,8 +32,8 @@ use Rattle.potentials.specs.Best.{Leads, Expanded}
 use Rattle.potentials.proofs.Greatest.{order_choice}
 use Rattle.potentials.proofs.Numbers.{nodes-few, node-mem}
 
-module _ {P : Plan} {r : Rules} {next m : List ℕ} {n u : ℕ} {node : Node} {l to : ℕ} where
-  module _ (t : Leads P r next m n u node l to) where
+module _ {P : Plan} {r : Rules} {next m : List ℕ} {n u : ℕ} {node : Node} {l : ℕ} where
+  module _ {to : rust.Option ℕ} (t : Leads P r next m n u node l to) where
     -- the node is that of its number
     pub node-is : node_of (tasks_in r) node ≡ node_at P u
     node-is = ap (node_of (tasks_in r)) t.at.row ∙ held-node (tasks_in r) m n (nodes P) t.holds.nodes u t.at.below
@@ -41,23 +42,20 @@ module _ {P : Plan} {r : Rules} {next m : List ℕ} {n u : ℕ} {node : Node} {l
     node_there =
         subst (λ (v : Node). Memᴰ (node_of (tasks_in r) v) (nodes P)) (sym t.at.row) (node-mem P (tasks_in r) m n t.holds u t.at.below)
 
-    -- its edges are those to the state with the code
-    edges-to : edges_at P (node_of (tasks_in r) node) l ≡ edges_to P (node_of (tasks_in r) node) l (next_of to)
+    -- its edges are those to the state
+    edges-to : edges_at P (node_of (tasks_in r) node) l ≡ edges_to P (node_of (tasks_in r) node) l (option_of to)
     unfolding edges_at
     edges-to =
         ap (edges_to P (node_of (tasks_in r) node) l)
         (ap (λ (as' : List model_plan.Arc). next_in as' node.state l) t.planned.arcs ∙ sym t.state)
 
-    -- none for none
-    pub edges_none : to ≡ 0 → edges_at P (node_of (tasks_in r) node) l ≡ []
-    edges_none e = edges-to ∙ ap (λ (k : ℕ). edges_to P (node_of (tasks_in r) node) l (next_of k)) e
+  -- none for none
+  pub edges_none : Leads P r next m n u node l None → edges_at P (node_of (tasks_in r) node) l ≡ []
+  edges_none t = edges-to t
 
-  module _ {before notes : List ℕ} {d : Noted} (t : Expanded P r next m n u node l to before notes d) where
+  module _ {state : ℕ} {before notes : List ℕ} {d : Noted} (t : Expanded P r next m n u node l state before notes d) where
     abbrev ts : Tasks
     ts = tasks_in r
-
-    abbrev state : ℕ
-    state = to - 1
 
     -- the slot
     abbrev done : model_slot.Done
@@ -72,7 +70,7 @@ module _ {P : Plan} {r : Rules} {next m : List ℕ} {n u : ℕ} {node : Node} {l
     -- the edges are those of the choices
     pub edges-choices : edges_at P (node_of ts node) l ≡ map (edge_of P (node_of ts node) l state) (choices ts l node.taken)
     edges-choices =
-        edges-to t.leads ∙ ap (edges_to P (node_of ts node) l) (next-some to t.admitted)
+        edges-to t.leads
         ∙ ap (λ (ts' : Tasks). map (edge_of P (node_of ts node) l state) (choices ts' l node.taken)) t.leads.planned.for.tasks
 
     -- a choice leads to the node of its pattern

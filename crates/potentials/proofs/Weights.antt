@@ -1,5 +1,5 @@
 -- Potentials and weights: their sizes, the sums in the code's order, and the order of gains. Assumes nothing.
-use mathlib.Core.Path.{◌≡◌}
+use mathlib.Core.Path.{◌≡◌, sym, ap₂, subst, ◌∙◌}
 use mathlib.Core.Bool.{true}
 use mathlib.Core.Logic.{◌⊎◌, inl, inr}
 use Prim.Native.Nat.{ℕ, ◌+◌, ◌*◌, ◌^◌, ◌≤◌, ◌<◌}
@@ -8,7 +8,8 @@ use native.Mathlib.Omega.{arith}
 use lib.IntN.{ℤ, pos, neg_ℤ, nat_abs, ◌+ℤ◌, ◌-ℤ◌, +ℤ_assoc}
 use lib.Signed.{le_z}
 use mir.Syntax.{w64}
-use mir.Val.{SFits}
+use mir.Val.{SFits, to_z, of_z}
+use mir.Facts.{to_z-of_z}
 use Rattle.model.specs.Limits.{max_q, max_potential}
 use Rattle.model.proofs.Tests.{is_true, holds}
 use Rattle.words.proofs.Signed.{up, dn, up-or-dn, up-add, up-sub, nat_abs-is, mag_iff, le_z-iff}
@@ -43,6 +44,24 @@ module _ (z : ℤ) (a : ℕ) (small : a ≤ max_charge) where
   bound_fits h =
       fits (z -ℤ pos a)
       (omega (arith, within (z -ℤ pos a) (up z) (dn z + a) (max_high + max_charge) (omega (arith, up-sub z (pos a))) (omega (arith, nat_abs-is z)) (omega (arith, nat_abs-is z))))
+
+-- ---- values as they are stored
+
+-- a difference
+pub bound-is : (high : ℤ) (p gain : ℕ) {t : ℤ} → SFits w64 high → SFits w64 t → t ≡ pos (p * gain) → p ≤ max_q → gain < 2 ^ 32 → nat_abs high ≤ max_high →
+    to_z w64 (of_z w64 (to_z w64 (of_z w64 high) -ℤ to_z w64 (of_z w64 t))) ≡ high -ℤ pos (p * gain)
+bound-is high p gain {t} fits_high fits_t is low few small =
+    let e : to_z w64 (of_z w64 high) -ℤ to_z w64 (of_z w64 t) ≡ high -ℤ pos (p * gain) =
+    ap₂ (λ y z. y -ℤ z) (to_z-of_z {w = w64} fits_high) (to_z-of_z {w = w64} fits_t ∙ is) in
+    to_z-of_z {w = w64} (subst (SFits w64) (sym e) (bound_fits high (p * gain) (charge_small p gain low few) small)) ∙ e
+
+-- and a sum
+pub high-is : (z : ℤ) (q gain : ℕ) {v t : ℤ} → SFits w64 v → SFits w64 t → v ≡ z → t ≡ pos (q * gain) → q ≤ max_q → gain < 2 ^ 32 → nat_abs z ≤ max_potential →
+    to_z w64 (of_z w64 (to_z w64 (of_z w64 v) +ℤ to_z w64 (of_z w64 t))) ≡ z +ℤ pos (q * gain)
+high-is z q gain {v} {t} fits_v fits_t first second low few small =
+    let e : to_z w64 (of_z w64 v) +ℤ to_z w64 (of_z w64 t) ≡ z +ℤ pos (q * gain) =
+    ap₂ (λ y z. y +ℤ z) (to_z-of_z {w = w64} fits_v ∙ first) (to_z-of_z {w = w64} fits_t ∙ second) in
+    to_z-of_z {w = w64} (subst (SFits w64) (sym e) (high_fits z (q * gain) (charge_small q gain low few) small)) ∙ e
 
 -- ---- orders
 

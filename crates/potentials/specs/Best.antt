@@ -1,11 +1,13 @@
 -- A label of a numbered node: where it leads, and the outcomes noted of it as best edges.
-use Rattle.std.specs.Prelude.{◌≡◌, List, ℕ, ◌+◌, ◌<◌}
+use Rattle.std.specs.Prelude as rust
+use Rattle.std.specs.Prelude.{◌≡◌, List, ℕ, ◌+◌, ◌<◌, Some}
 use Rattle.model.specs.Graph as model
 use Rattle.model.specs.Masks.{mask_count}
+use Rattle.model.specs.Options.{option_of}
 use Rattle.model.specs.Plan.{Plan, next_in}
 use Rattle.words.specs.Packed.{packed}
 use Rattle.theory.specs.Lightest.{Best}
-use Rattle.plan.specs.View.{arcs_in, next_of}
+use Rattle.plan.specs.View.{arcs_in}
 use Rattle.policy.specs.View.{tasks_in, Ruled}
 use Rattle.policy.specs.declared.Rules.{Rules}
 use Rattle.graph.specs.Outcomes.{pattern_count, masks_in}
@@ -17,17 +19,16 @@ use Rattle.store.specs.Store.{rows_in, index_in}
 use Rattle.discovery.specs.Discovery.{row_of, Holds}
 use Rattle.potentials.specs.Potentials.{Numbered, with_pattern, score_in}
 
--- at the node in the row u the label l leads to the state with the code to: 0 for none, the state and 1 otherwise
-pub record Leads (P : Plan) (r : Rules) (next m : List ℕ) (n u : ℕ) (node : Node) (l to : ℕ) : Type 0 where
+-- at the node in the row u the label l leads to this state, or to none
+pub record Leads (P : Plan) (r : Rules) (next m : List ℕ) (n u : ℕ) (node : Node) (l : ℕ) (to : rust.Option ℕ) : Type 0 where
   pub planned : Planned P r next
   pub holds : Holds P (tasks_in r) m n
   pub at : Numbered m n u node
-  pub state : next_of to ≡ next_in (arcs_in next) node.state l
+  pub state : option_of to ≡ next_in (arcs_in next) node.state l
 
--- it is admitted, and its outcomes are noted
-pub record Expanded (P : Plan) (r : Rules) (next m : List ℕ) (n u : ℕ) (node : Node) (l to : ℕ) (before notes : List ℕ) (d : Noted) : Type 0 where
-  pub leads : Leads P r next m n u node l to
-  pub admitted : 0 < to
+-- it leads to the state t, and its outcomes are noted
+pub record Expanded (P : Plan) (r : Rules) (next m : List ℕ) (n u : ℕ) (node : Node) (l t : ℕ) (before notes : List ℕ) (d : Noted) : Type 0 where
+  pub leads : Leads P r next m n u node l (Some t)
   pub ruled : Ruled r
   pub low : node.taken < mask_count
   pub wanted : ℕ

@@ -24,10 +24,10 @@ pub record Test (P : Plan) (c : Certificate) (r : Rules) (next m s : List ℕ) (
   pub holds : Holds P (tasks_in r) m claim.n
   pub read : read_certificate s ≡ some c
   pub count : length c.potentials ≡ claim.n
-  pub is_p : c.p ≡ claim.p
-  pub is_q : c.q ≡ claim.q
-  pub fits_p : claim.p ≤ max_p
-  pub fits_q : claim.q ≤ max_q
+  pub is_p : c.p ≡ claim.fraction.p
+  pub is_q : c.q ≡ claim.fraction.q
+  pub fits_p : claim.fraction.p ≤ max_p
+  pub fits_q : claim.fraction.q ≤ max_q
   pub within : all within_limit c.potentials ≡ true
 
 -- there is such a plan and certificate
@@ -42,11 +42,12 @@ pub record Testing (r : Rules) (next m s : List ℕ) (claim : Claim) : Type 0 wh
 abbrev pub potential_of : List ℤ → List ℕ → ℕ → Node → ℤ
 potential_of zs m n v = potential_at zs (index_in (rows_in m n) (row_of v))
 
--- that potential can be read
+-- its row is among them, and that potential can be read
 pub record Findable (s m : List ℕ) (n : ℕ) (v : Node) : Type 0 where
   pub index : Indexed m n
   pub distinct : Distinct (rows_in m n)
   pub size : length v.cells ≡ cell_count
+  pub there : index_in (rows_in m n) (row_of v) < n
   pub potential : HasPotential s (index_in (rows_in m n) (row_of v))
 
 -- the node in the row u
@@ -70,7 +71,7 @@ gain_in notes count p = score_in notes count p - 1
 -- the inequality on the outcome noted for a pattern: high is the potential of the edges' node with the policy's weight
 abbrev pub pattern_ok : Claim → List ℤ → List ℕ → ℕ → List ℕ → List ℕ → ℕ → ℤ → ℕ → Bool
 pattern_ok claim zs notes count m cells state high p =
-    le_z (potential_of zs m claim.n (with_pattern cells state p)) (high -ℤ pos (claim.p * gain_in notes count p))
+    le_z (potential_of zs m claim.n (with_pattern cells state p)) (high -ℤ pos (claim.fraction.p * gain_in notes count p))
 
 -- what a gain at a price is at most, and a potential with one
 abbrev pub max_charge : ℕ
@@ -82,7 +83,7 @@ max_high = max_potential + max_charge
 -- the outcomes can be tested
 pub record Charged (claim : Claim) (s notes m : List ℕ) (count : ℕ) (cells : List ℕ) (state : ℕ) (high : ℤ) : Type 0 where
   pub readable : Readable notes count
-  pub fits_p : claim.p ≤ max_p
+  pub fits_p : claim.fraction.p ≤ max_p
   pub fits_high : nat_abs high ≤ max_high
   pub noted : (k : ℕ) → k < count → 0 < score_in notes count (pattern_in notes k)
   pub found : (k : ℕ) → k < count → Findable s m claim.n (with_pattern cells state (pattern_in notes k))

@@ -9,21 +9,43 @@ ghost use Rattle.answer_text.specs.Finish.{result_line};
 ghost use Rattle.records.specs.Begins.{Begins};
 
 use host::STDOUT;
-use refusals::Answer;
+use refusals::Refusal;
+use std::fs::File;
+use std::io::Read;
+use std::rt::Files;
+
+// Runs each case of cases.bin by `run`, which gets the case's kind and the file, and answers whether it knows the kind. The file has the number of
+// cases in two bytes, and then for each one byte with its kind and its fields, each behind two bytes of its length.
+pub fn run_cases<R: Files<File = File>, F: FnMut(u8, &mut File) -> bool>(rt: &R, mut run: F)
+    requires { F.IsAlwaysCallable run }
+{
+    let Ok(mut file) = File::open(rt, "cases.bin") else {
+        return;
+    };
+    let mut count = [0u8; 2];
+    host::read_full(&mut file, &mut count);
+    for _ in 0..words::read_u16(&count, 0) {
+        let mut kind = [0u8; 1];
+        host::read_full(&mut file, &mut kind);
+        if !run(kind[0], &mut file) {
+            io::write_all(STDOUT, b"unknown kind\n");
+        }
+    }
+}
 
 // Reads the next record, two bytes of length and then so many, into a buffer; how many bytes it has.
-pub fn read_next(file: i32, buf: &mut [u8]) -> usize
+pub fn read_next<R: Read>(file: &mut R, buf: &mut [u8]) -> usize
     ensures { IsPrefixLen result buf.new }
 {
     let mut size = [0u8; 2];
-    if io::read_full(file, &mut size) < 2 {
+    if host::read_full(file, &mut size) < 2 {
         return 0;
     }
     let n = words::read_u16(&size, 0) as usize;
     if buf.len() < n {
         return 0;
     }
-    io::read_full(file, &mut buf[..n])
+    host::read_full(file, &mut buf[..n])
 }
 
 // The most bytes that a case lends.
@@ -42,44 +64,27 @@ pub fn lent(n: u64, memory: &[u8]) -> usize
     ensures value { result ≡ min n (length memory.now) }
     ensures prefix_len { IsPrefixLen result memory.now }
 {
-    let most = memory.len();
-    let wanted = n as usize;
-    if most < wanted {
-        return most;
-    }
-    wanted
-}
-
-// Whether the bytes begin with a head.
-fn begins_with(bytes: &[u8], head: &[u8]) -> bool
-    ensures { Begins bytes.now head.now result }
-{
-    let n = head.len();
-    if bytes.len() < n {
-        return false;
-    }
-    check::same(&bytes[..n], head)
+    (n as usize).min(memory.len())
 }
 
 // Writes whether the bytes begin with a head, and answers it.
 pub fn write_comparison(bytes: &[u8], head: &[u8]) -> bool
     ensures { Begins bytes.now head.now result }
 {
-    let same = begins_with(bytes, head);
-    if head.len() == 0 {
-        io::write_all(STDOUT, b"no head\n");
-        return same;
-    }
-    if same {
-        io::write_all(STDOUT, b"head as given\n");
-        return same;
-    }
-    io::write_all(STDOUT, b"head differs\n");
+    let same = bytes.starts_with(head);
+    let line: &[u8] = if head.is_empty() {
+        b"no head\n"
+    } else if same {
+        b"head as given\n"
+    } else {
+        b"head differs\n"
+    };
+    io::write_all(STDOUT, line);
     same
 }
 
 // Writes the line of an answer and all bytes of the output to standard output, and answers the length of the line.
-pub fn write_result(answer: Answer, out: &[u8]) -> usize
+pub fn write_result(answer: Result<usize, Refusal>, out: &[u8]) -> usize
     ensures { result ≡ length (result_line (result_by answer)) }
 {
     let n = answer_text::print_line(answer);

@@ -6,7 +6,7 @@ use Rattle.plan.specs.View.{fault_number}
 use Rattle.plan.specs.declared.Fault.{Fault}
 use Rattle.plan.specs.declared.Fault.TheVariants.{BytesEnd, UnknownCommand, OutOfPlace, OutOfRange}
 use Rattle.refusals.specs.declared.Refusal.{Refusal}
-use Rattle.refusals.specs.declared.Refusal.TheVariants.{Plan, TooManyNodes, BadForm, BadFraction, BadCount, BadPotential, BadCycle, ShortMemory, TooManyLabels, NotAdmitted, BadGap, TooManyPairs, NotInFirst, BadCap}
+use Rattle.refusals.specs.declared.Refusal.TheVariants.{Plan, TooManyNodes, BadForm, BadFraction, BadCount, BadPotential, BadCycle, ShortMemory, TooManyLabels, NotAdmitted, BadGap, TooManyPairs, NotInFirst, BadWrite, BadCap}
 use Rattle.refusals.specs.Numbers.{refusal_number}
 
 fault_small : (f : Fault) → fault_number f ≤ bad_cap
@@ -30,4 +30,5 @@ refusal_small NotAdmitted = omega arith
 refusal_small BadGap = omega arith
 refusal_small TooManyPairs = omega arith
 refusal_small NotInFirst = omega arith
+refusal_small BadWrite = omega arith
 refusal_small BadCap = omega arith

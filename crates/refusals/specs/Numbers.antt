@@ -1,9 +1,9 @@
 -- The number of each refusal.
 use Rattle.std.specs.Prelude.{ℕ}
-use Rattle.model.specs.Refusals.{too_many_nodes, bad_form, bad_fraction, bad_count, bad_potential, bad_cycle, short_memory, too_many_labels, not_admitted, bad_gap, too_many_pairs, not_in_first, bad_cap}
+use Rattle.model.specs.Refusals.{too_many_nodes, bad_form, bad_fraction, bad_count, bad_potential, bad_cycle, short_memory, too_many_labels, not_admitted, bad_gap, too_many_pairs, not_in_first, bad_write, bad_cap}
 use Rattle.plan.specs.View.{fault_number}
 use Rattle.refusals.specs.declared.Refusal.{Refusal}
-use Rattle.refusals.specs.declared.Refusal.TheVariants.{Plan, TooManyNodes, BadForm, BadFraction, BadCount, BadPotential, BadCycle, ShortMemory, TooManyLabels, NotAdmitted, BadGap, TooManyPairs, NotInFirst, BadCap}
+use Rattle.refusals.specs.declared.Refusal.TheVariants.{Plan, TooManyNodes, BadForm, BadFraction, BadCount, BadPotential, BadCycle, ShortMemory, TooManyLabels, NotAdmitted, BadGap, TooManyPairs, NotInFirst, BadWrite, BadCap}
 
 abbrev pub refusal_number : Refusal → ℕ
 refusal_number (Plan f) = fault_number f
@@ -19,4 +19,5 @@ refusal_number NotAdmitted = not_admitted
 refusal_number BadGap = bad_gap
 refusal_number TooManyPairs = too_many_pairs
 refusal_number NotInFirst = not_in_first
+refusal_number BadWrite = bad_write
 refusal_number BadCap = bad_cap

@@ -6,8 +6,9 @@ ghost use Rattle.refusals.specs.Numbers.{refusal_number};
 
 use plan::Fault;
 
-// The plan's author, the certificate's, the calling program, whoever lists releases, whoever asks for another plan, whoever asks about a cap.
-#[derive(Clone, Copy)]
+// The plan's author, the certificate's, the calling program, whoever lists releases, whoever asks for another plan, whoever writes to the
+// register block, whoever asks about a cap.
+#[derive(Clone, Copy, Debug, PartialEq, Eq)]
 pub enum Refusal {
     Plan(Fault),
     TooManyNodes,
@@ -22,14 +23,19 @@ pub enum Refusal {
     BadGap,
     TooManyPairs,
     NotInFirst,
+    BadWrite,
     BadCap,
 }
 
-// What a call that writes bytes tells: why it wrote none, or how many it wrote.
-#[derive(Clone, Copy)]
-pub enum Answer {
-    Refused(Refusal),
-    Written(usize),
+impl From<Fault> for Refusal {
+    ghost use Rattle.std.specs.Prelude.{◌≡◌};
+    ghost use Rattle.refusals.specs.declared.Refusal.TheVariants.{Plan};
+
+    ghost from_gives = { λ f r. r ≡ Plan f };
+
+    fn from(f: Fault) -> Refusal {
+        Refusal::Plan(f)
+    }
 }
 
 impl Refusal {
@@ -51,6 +57,7 @@ impl Refusal {
             Refusal::BadGap => 14,
             Refusal::TooManyPairs => 15,
             Refusal::NotInFirst => 16,
+            Refusal::BadWrite => 17,
             Refusal::BadCap => 18,
         }
     }

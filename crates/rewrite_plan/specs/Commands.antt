@@ -1,5 +1,6 @@
 -- What the program's arguments ask for, and what it then writes.
-use Rattle.std.specs.Prelude.{◌≡◌, cond, List, [], ◌∷◌, ℕ, length}
+use Rattle.std.specs.Prelude as rust
+use Rattle.std.specs.Prelude.{◌≡◌, cond, List, [], ◌∷◌, ℕ, length, None, Some}
 use Rattle.model.specs.Bytes.{Put}
 use Rattle.model.specs.Calls.{Writing}
 use Rattle.model.specs.Combine.{combine}
@@ -11,8 +12,6 @@ use Rattle.model.specs.Plan as model
 use Rattle.model.specs.PlanBytes.{plan_bytes_in, plan_bytes}
 use Rattle.model.specs.Text.{writing_text}
 use Rattle.arguments.specs.Decimal.{decimal_in, number_of}
-use Rattle.arguments.specs.declared.Number.{Number}
-use Rattle.arguments.specs.declared.Number.TheVariants.{Nothing, Of}
 use Rattle.gap.specs.Groups.{group_of}
 use Rattle.gap.specs.declared.Group.TheVariants as group
 use Rattle.rewrite_plan.specs.declared.Word.{Word}
@@ -36,53 +35,64 @@ forth_word = 102 ∷ 111 ∷ 114 ∷ 116 ∷ 104 ∷ []
 abbrev pub back_word : List ℕ
 back_word = 98 ∷ 97 ∷ 99 ∷ 107 ∷ []
 
-abbrev pub word_in : List ℕ → Word
+abbrev pub word_in : List ℕ → rust.Option Word
 word_in s =
-    cond (same_numbers s gap_word) word.Gap
-    (cond (same_numbers s group_word) word.Group
-    (cond (same_numbers s combine_word) word.Combine
-    (cond (same_numbers s forth_word) word.Forth
-    (cond (same_numbers s back_word) word.Back word.Other))))
+    cond (same_numbers s gap_word) (Some word.Gap)
+    (cond (same_numbers s group_word) (Some word.Group)
+    (cond (same_numbers s combine_word) (Some word.Combine)
+    (cond (same_numbers s forth_word) (Some word.Forth)
+    (cond (same_numbers s back_word) (Some word.Back) None))))
 
 -- a word alone
-abbrev pub alone_is : Word → Command
-alone_is word.Gap = command.Unknown
-alone_is word.Group = command.Unknown
-alone_is word.Combine = command.Combine
-alone_is word.Forth = command.Forth
-alone_is word.Back = command.Back
-alone_is word.Other = command.Unknown
+abbrev pub alone_is : Word → rust.Option Command
+alone_is word.Gap = None
+alone_is word.Group = None
+alone_is word.Combine = Some command.Combine
+alone_is word.Forth = Some command.Forth
+alone_is word.Back = Some command.Back
+
+abbrev pub single_is : rust.Option Word → rust.Option Command
+single_is None = None
+single_is (Some w) = alone_is w
 
 -- a word and two numbers: a task or a set, and the slots of the gap
-abbrev pub spacing_is : Word → ℕ → ℕ → Command
-spacing_is word.Gap n slots = command.Space (group.Task n) slots
-spacing_is word.Group n slots = command.Space (group.Set n) slots
-spacing_is word.Combine n slots = command.Unknown
-spacing_is word.Forth n slots = command.Unknown
-spacing_is word.Back n slots = command.Unknown
-spacing_is word.Other n slots = command.Unknown
+abbrev pub spacing_is : Word → ℕ → ℕ → rust.Option Command
+spacing_is word.Gap n slots = Some (command.Space (group.Task n) slots)
+spacing_is word.Group n slots = Some (command.Space (group.Set n) slots)
+spacing_is word.Combine n slots = None
+spacing_is word.Forth n slots = None
+spacing_is word.Back n slots = None
 
-abbrev pub counted_is : Word → Number → Number → Command
-counted_is w Nothing slots = command.Unknown
-counted_is w (Of n) Nothing = command.Unknown
-counted_is w (Of n) (Of slots) = spacing_is w n slots
+abbrev pub counted_is : rust.Option Word → rust.Option ℕ → rust.Option ℕ → rust.Option Command
+counted_is None n slots = None
+counted_is (Some w) None slots = None
+counted_is (Some w) (Some n) None = None
+counted_is (Some w) (Some n) (Some slots) = spacing_is w n slots
 
 -- the arguments behind the program's name
-abbrev pub command_is : List (List ℕ) → Command
-command_is [] = command.Unknown
-command_is (w ∷ []) = alone_is (word_in w)
-command_is (w ∷ n ∷ []) = command.Unknown
+abbrev pub command_is : List (List ℕ) → rust.Option Command
+command_is [] = None
+command_is (w ∷ []) = single_is (word_in w)
+command_is (w ∷ n ∷ []) = None
 command_is (w ∷ n ∷ slots ∷ []) = counted_is (word_in w) (number_of (decimal_in n)) (number_of (decimal_in slots))
-command_is (w ∷ n ∷ slots ∷ more ∷ rest) = command.Unknown
+command_is (w ∷ n ∷ slots ∷ more ∷ rest) = None
 
--- so many bytes are written, the text of what is due with room for a plan
-abbrev pub Writes : (model.Plan → List ℕ) → (ℕ → Writing model.Plan) → ℕ → Type 0
-Writes spell due n = (out out' : List ℕ) × (plan_room ≡ length out) × Put out out' 0 (writing_text spell (due (length out))) n
+-- the edition whose bytes a command writes
+abbrev pub spelled : Command → model.Plan → List ℕ
+spelled (command.Space g slots) = plan_bytes
+spelled command.Combine = plan_bytes
+spelled command.Forth = plan_bytes
+spelled command.Back = plan_bytes_in first_edition
 
--- what a command writes, for the plans that it reads; for arguments that are none it writes nothing
-abbrev pub Runs : Command → ℕ → Type 0
-Runs (command.Space g slots) n = (plan : List ℕ) × Writes plan_bytes (group_gap plan (group_of g) slots) n
-Runs command.Combine n = (first second : List ℕ) × Writes plan_bytes (combine first second) n
-Runs command.Forth n = (plan : List ℕ) × Writes plan_bytes (forth plan) n
-Runs command.Back n = (plan : List ℕ) × Writes (plan_bytes_in first_edition) (back plan) n
-Runs command.Unknown n = n ≡ 0
+-- what is due for the plans that it reads, with so much room; only `combine` reads the other one
+abbrev pub due : Command → List ℕ → List ℕ → ℕ → Writing model.Plan
+due (command.Space g slots) plan other = group_gap plan (group_of g) slots
+due command.Combine plan other = combine plan other
+due command.Forth plan other = forth plan
+due command.Back plan other = back plan
+
+-- what a command writes, the text of what is due with room for a plan; for arguments that are none it writes nothing
+abbrev pub Runs : rust.Option Command → ℕ → Type 0
+Runs (Some c) n =
+    (plan other out out' : List ℕ) × (plan_room ≡ length out) × Put out out' 0 (writing_text (spelled c) (due c plan other (length out))) n
+Runs None n = n ≡ 0

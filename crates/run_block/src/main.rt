@@ -7,69 +7,49 @@
 ghost use Rattle.std.specs.Prelude.{◌≡◌, List, ℕ, length};
 ghost use Rattle.model.specs.Controller.{after_writes, writes_in};
 ghost use Rattle.policy.specs.View.{tasks_in};
-ghost use Rattle.controller.specs.View.{block_of, Ready, Becomes};
+ghost use Rattle.controller.specs.Block.{Ready, block_of};
+ghost use Rattle.controller.specs.View.{Becomes};
 
 use controller::Block;
-use plan::Outcome;
-use policy::Rules;
-use refusals::{Answer, Refusal};
+use machine::Machine;
+use refusals::Refusal;
 use std::fs::File;
 
-// The block after a part of the writes, and how many bytes the part had.
-#[derive(Clone, Copy)]
-struct PartRun {
-    block: Block,
-    count: usize,
-}
-
-// Reads the next part of the writes, and writes its lines.
-fn run_part(fd: i32, rules: Rules, next: &[u8; plan::PAIRS], block: Block) -> PartRun
-    requires { Ready rules next.now block }
-    ensures { (writes : List ℕ) × (result.count ≡ length writes) × Becomes rules next.now (λ P. after_writes P (block_of (tasks_in rules) block) (writes_in writes)) result.block }
+// Reads the next part of the writes, makes them and writes their lines, and answers how many bytes the part had.
+fn run_part(file: &mut Option<File>, machine: &Machine, block: &mut Block) -> usize
+    requires { Ready machine.now.rules block.old }
+    ensures { (writes : List ℕ) × (result ≡ length writes) × Becomes machine.now.rules machine.now.next (λ P. after_writes P (block_of (tasks_in machine.now.rules) block.old) (writes_in writes)) block.new }
 {
     let mut writes = block_text::part_room();
-    let count = io::read_full(fd, &mut writes);
-    let after = block_text::print_lines(rules, next, block, &writes[..count]);
-    PartRun {
-        block: after,
-        count,
-    }
+    let count = host::read_part(file, &mut writes);
+    *block = block_text::print_lines(machine, *block, &writes[..count]);
+    count
 }
 
-// Goes on while a part was full. A proved loop has to end, and nothing says that a file does: it counts its turns down from a number that no run
-// uses up.
-fn run_parts(fd: i32, rules: Rules, next: &[u8; plan::PAIRS], block: Block) -> Block
-    requires { Ready rules next.now block }
-    ensures { (writes : List ℕ) × Becomes rules next.now (λ P. after_writes P (block_of (tasks_in rules) block) (writes_in writes)) result }
+// Goes on while a part was full. A proved loop has to end, and nothing says that a file does: it takes a number of parts that no file has.
+fn run_parts(file: &mut Option<File>, machine: &Machine, block: &mut Block)
+    requires { Ready machine.now.rules block.old }
+    ensures { (writes : List ℕ) × Becomes machine.now.rules machine.now.next (λ P. after_writes P (block_of (tasks_in machine.now.rules) block.old) (writes_in writes)) block.new }
 {
-    let mut after = block;
-    let mut turns = u64::MAX;
-    while turns > 0 {
-        let run = run_part(fd, rules, next, after);
-        after = run.block;
-        if run.count != block_text::PART {
-            return after;
+    for _ in 0..u64::MAX {
+        let count = run_part(file, machine, block);
+        if count != block_text::PART {
+            return;
         }
-        turns -= 1;
     }
-    after
 }
 
 fn main(rt: HostRuntime) {
     let mut plan = io::large_buffer();
     let length = host::read_file(&rt, "plan.bin", &mut plan);
-    let set = controller::set_up(&plan[..length]);
-    let outcome = set.outcome;
-    let controller = set.controller;
-    match outcome {
-        Outcome::Faulty(f) => {
-            answer_text::print_line(Answer::Refused(Refusal::Plan(f)));
+    match controller::set_up(&plan[..length]) {
+        Err(f) => {
+            answer_text::print_line(Err(Refusal::Plan(f)));
         }
-        Outcome::Sound => {
-            let rules = controller.rules;
-            let next = controller.next;
-            let writes = File::open(&rt, "writes.bin").ok();
-            run_parts(host::descriptor(&writes), rules, &next, controller.block);
+        Ok(controller) => {
+            let mut writes = File::open(&rt, "writes.bin").ok();
+            let mut block = controller.block;
+            run_parts(&mut writes, &controller.machine, &mut block);
         }
     }
 }

@@ -1,10 +1,12 @@
 -- A fraction falls to that of a cycle which costs less than 0 at it, until there is none. Assumes nothing.
-use mathlib.Core.Path.{◌≡◌, sym, subst, subst₂}
+use mathlib.Core.Path.{◌≡◌, refl, sym, subst, subst₂}
 use mathlib.Core.Bool.{true}
 use mathlib.Core.List.{List}
 use Prim.Native.Nat.{ℕ, ◌*◌, ◌/◌, ◌<◌, ◌≤◌}
 use native.Mathlib.Omega.{arith}
 use lib.ListN.{length}
+use Rattle.std.specs.Prelude as rust
+use Rattle.std.specs.Prelude.{Ok, Err}
 use Rattle.model.specs.Check.{gcd, fraction_ok}
 use Rattle.model.specs.Limits.{max_p, max_q}
 use Rattle.model.specs.Plan.{Plan}
@@ -18,26 +20,24 @@ use Rattle.policy.specs.View.{tasks_in}
 use Rattle.policy.specs.declared.Rules.{Rules}
 use Rattle.graph.specs.View.{Planned}
 use Rattle.discovery.specs.Discovery.{Holds}
-use Rattle.distances.specs.declared.Prices.{Prices}
-use Rattle.distances.specs.declared.Settled.{Settled}
+use Rattle.potentials.specs.declared.Claim.{Claim}
 use Rattle.model.specs.Bytes.{Only}
-use Rattle.links.specs.Links.{links_at, links_size, first_steps}
-use Rattle.distances.specs.Distances.{Turned, Settles}
+use Rattle.links.specs.Links.{links_at, links_size, links_end, first_steps}
+use Rattle.distances.specs.Distances.{Priced, Settles}
 use Rattle.distances.proofs.Rows.{step_kept, steps-kept, holds_kept}
 use Rattle.circuit.specs.Circuit.{Turns}
 use Rattle.circuit.proofs.Steps.{steps-length}
-use Rattle.circuit.specs.declared.Fraction.{Fraction}
-use Rattle.solution.specs.declared.Solution.{Solution}
-use Rattle.solution.specs.Solution.{prices_of, Tight, Circling, Lowers, Solving}
+use Rattle.fraction.specs.declared.Fraction.{Fraction}
+use Rattle.solution.specs.Solution.{Tight, Circling, Lowers, Solving}
 
 -- ---- one cycle
 
-module _ {P : Plan} {r : Rules} {next m : List ℕ} {prices : Prices} {k : ℕ} (c : Circling P r next m prices k) where
-  pub circling-turns : Turns P r next m prices.n k c.turned.node c.turned.circuit.edges
+module _ {P : Plan} {r : Rules} {next m : List ℕ} {claim : Claim} {k : ℕ} (c : Circling P r next m claim k) where
+  pub circling-turns : Turns P r next m claim.n k c.turned.node c.turned.circuit.edges
   circling-turns = record { planned = c.planned; holds = c.holds; below = c.turned.nodes; along = c.turned.circuit.along }
 
   -- it has at most as many steps as there are nodes
-  pub circling-few : k ≤ prices.n
+  pub circling-few : k ≤ claim.n
   circling-few = omega (arith, c.turned.circuit.few, steps-length m k)
 
   circling_sums : (kept c.turned.circuit.edges ≤ max_p) × (ideal c.turned.circuit.edges ≤ max_q) × (0 < ideal c.turned.circuit.edges) × (0 < length (first_steps m k))
@@ -49,7 +49,7 @@ module _ {P : Plan} {r : Rules} {next m : List ℕ} {prices : Prices} {k : ℕ} 
 
   -- and its gains in lowest terms are a smaller fraction
   pub circling_lowers : (f : Fraction) → let a = kept c.turned.circuit.edges in let b = ideal c.turned.circuit.edges in
-      f.p ≡ a / gcd a b → f.q ≡ b / gcd a b → Lowers P prices m k f
+      f.p ≡ a / gcd a b → f.q ≡ b / gcd a b → Lowers P claim m k f
   circling_lowers f e d =
       let t = c.turned in
       let a = kept t.circuit.edges in
@@ -57,7 +57,7 @@ module _ {P : Plan} {r : Rules} {next m : List ℕ} {prices : Prices} {k : ℕ} 
       let sums = circling_sums in record {
         fraction = subst₂ (λ (p q : ℕ). fraction_ok p q ≡ true) (sym e) (sym d) (lowest-ok a b sums.2 sums.0 sums.1);
         some = subst (λ (q : ℕ). 0 < q) (sym d) (lowest-pos a b sums.2);
-        less = subst₂ (λ (p q : ℕ). prices.q * p < prices.p * q) (sym e) (sym d) (lowest-less a b prices.p prices.q t.circuit.less);
+        less = subst₂ (λ (p q : ℕ). claim.fraction.q * p < claim.fraction.p * q) (sym e) (sym d) (lowest-less a b claim.fraction.p claim.fraction.q t.circuit.less);
         tight = record {
           node = t.node;
           below = t.below;
@@ -69,6 +69,10 @@ module _ {P : Plan} {r : Rules} {next m : List ℕ} {prices : Prices} {k : ℕ} 
           exact = subst₂ (λ (p q : ℕ). p * b ≡ q * a) (sym e) (sym d) (lowest-exact a b);
         };
       }
+
+-- what a search leaves, of an equal answer
+pub settles_as : {P : Plan} {claim : Claim} {m m' : List ℕ} {a b : rust.Result ℕ ℕ} → a ≡ b → Settles P claim m m' a → Settles P claim m m' b
+settles_as {P = P} {claim = claim} {m = m} {m' = m'} e t = subst (Settles P claim m m') e t
 
 -- a cycle in the steps stands beside a change of links
 tight-kept : {P : Plan} {n : ℕ} {m m' : List ℕ} {p q k : ℕ} → Only links_at links_size m m' → Tight P n m p q k → Tight P n m' p q k
@@ -85,46 +89,66 @@ tight-kept {P} {n} {k = k} o t = record {
 
 -- ---- from fraction to fraction
 
--- the solution, if no cycle was found
-abbrev pub solution_at : ℕ → ℕ → ℕ → Settled → Solution
-solution_at p q steps found = record { p = p; q = q; steps = steps; passes = found.passes }
+-- 1/0 is a fraction
+nothing-recurs : fraction_ok 1 0 ≡ true
+unfolding fraction_ok
+nothing-recurs = refl
 
--- at this fraction a cycle was found, or, for found = 0, none costs less than 0
-pub record Aimed (P : Plan) (r : Rules) (next m : List ℕ) (n : ℕ) (s : Solution) (found : ℕ) : Type 0 where
+-- such a cycle stands in the steps at this fraction, for 1/0 none
+pub record Aimed (P : Plan) (r : Rules) (next m : List ℕ) (n : ℕ) (f : Fraction) (steps : ℕ) : Type 0 where
   pub planned : Planned P r next
   pub holds : Holds P (tasks_in r) m n
-  pub fraction : fraction_ok s.p s.q ≡ true
-  pub rest : found ≡ 0 → Solving P r next m n s
-  pub circuit : 0 < found → Turned P (prices_of s n) m found
+  pub fraction : fraction_ok f.p f.q ≡ true
+  pub cycle : 0 < f.q → Tight P n m f.p f.q steps
+  pub bare : f.q ≡ 0 → steps ≡ 0
 
-module _ {P : Plan} {r : Rules} {next : List ℕ} {n : ℕ} where
-  -- after a search
-  pub aimed_after : {m m' : List ℕ} {s : Solution} {found : ℕ} → Planned P r next → Holds P (tasks_in r) m n → fraction_ok s.p s.q ≡ true →
-      (0 < s.q → Tight P n m s.p s.q s.steps) → (s.q ≡ 0 → s.steps ≡ 0) → Settles P (prices_of s n) m m' (record { steps = found; passes = s.passes }) →
-      Aimed P r next m' n s found
-  aimed_after planned holds ok tight bare t = record {
+module _ {P : Plan} {r : Rules} {next m : List ℕ} {n : ℕ} where
+  -- at the start
+  pub aimed_first : Planned P r next → Holds P (tasks_in r) m n → Aimed P r next m n (record { p = 1; q = 0 }) 0
+  aimed_first planned holds = record {
     planned = planned;
-    holds = holds_kept t.only holds;
-    fraction = ok;
-    rest = λ e. record {
-      planned = planned;
-      holds = holds_kept t.only holds;
-      fraction = ok;
-      search = (t.search e).0;
-      quiet = (t.search e).1;
-      passed = t.passes e;
-      cycle = λ h. tight-kept (t.links e) (tight h);
-      bare = bare;
-    };
-    circuit = t.circuit;
+    holds = holds;
+    fraction = nothing-recurs;
+    cycle = λ h. absurd (omega arith);
+    bare = λ e. refl;
   }
 
-  module _ {m : List ℕ} {s : Solution} {found : ℕ} (a : Aimed P r next m n s found) (some : 0 < found) where
-    pub aimed_circling : Circling P r next m (prices_of s n) found
-    aimed_circling = record { planned = a.planned; holds = a.holds; turned = a.circuit some }
+  module _ {f : Fraction} {steps : ℕ} (a : Aimed P r next m n f steps) where
+    abbrev claim : Claim
+    claim = record { fraction = f; n = n }
+
+    pub aimed_priced : links_end ≤ length m → Priced P r next m claim
+    aimed_priced room = record { planned = a.planned; holds = a.holds; fraction = a.fraction; room = room }
+
+    -- the search at this fraction finds a cycle
+    pub aimed_circling : {m' : List ℕ} {k : ℕ} → Settles P claim m m' (Err k) → Circling P r next m' claim k
+    aimed_circling t = record { planned = a.planned; holds = holds_kept t.only a.holds; turned = t.circuit.1 }
 
     -- the next fraction is smaller
-    pub aimed_less : {f : Fraction} → Lowers P (prices_of s n) m found f → fraction_left f.p f.q < fraction_left s.p s.q
-    aimed_less {f} l =
-        let fits = fraction-fits f.p f.q l.fraction in
-        fraction-less s.p s.q f.p f.q l.some fits.1 fits.0 (fraction-fits s.p s.q a.fraction).1 l.less
+    pub aimed_less : {m' : List ℕ} {k : ℕ} {g : Fraction} → Lowers P claim m' k g → fraction_left g.p g.q < fraction_left f.p f.q
+    aimed_less {g = g} l =
+        let fits = fraction-fits g.p g.q l.fraction in
+        fraction-less f.p f.q g.p g.q l.some fits.1 fits.0 (fraction-fits f.p f.q a.fraction).1 l.less
+
+    pub aimed_lower : {m' : List ℕ} {k : ℕ} {g : Fraction} → Circling P r next m' claim k → Lowers P claim m' k g → Aimed P r next m' n g k
+    aimed_lower c l = record {
+      planned = c.planned;
+      holds = c.holds;
+      fraction = l.fraction;
+      cycle = λ h. l.tight;
+      bare = λ e. absurd (omega (arith, l.some));
+    }
+
+    -- or none
+    pub aimed_solves : {m' : List ℕ} {passes : ℕ} → Settles P claim m m' (Ok passes) →
+        Solving P r next m' n (record { fraction = f; steps = steps; passes = passes })
+    aimed_solves t = record {
+      planned = a.planned;
+      holds = holds_kept t.only a.holds;
+      fraction = a.fraction;
+      search = t.search.0;
+      quiet = t.search.1;
+      passed = t.passes;
+      cycle = λ h. tight-kept t.links (a.cycle h);
+      bare = a.bare;
+    }

@@ -3,65 +3,67 @@
 
 ghost use Rattle.std.specs.Prelude.{List, ℕ, ◌+◌, ◌≤◌, length};
 ghost use Rattle.model.specs.Plan.{Plan};
-ghost use Rattle.policy.specs.View.{tasks_in, Ruled};
-ghost use Rattle.graph.specs.Outcomes.{note_room, NotesFree};
+ghost use Rattle.policy.specs.View.{tasks_in};
 ghost use Rattle.graph.specs.View.{Planned};
 ghost use Rattle.discovery.specs.Discovery.{Holds, Held};
 ghost use Rattle.model.specs.Bytes.{Only};
 ghost use Rattle.links.specs.Links.{links_at, links_size, steps_size, links_end};
 ghost use Rattle.solution.specs.Solution.{Circling, Circled, Lowers, Solving};
 
-use circuit::Fraction;
-use distances::Prices;
-use policy::Rules;
+use fraction::Fraction;
+use machine::Machine;
+use potentials::Claim;
 
-// A fraction, the steps of the cycle that attains it, 0 for 1/0, and the number of passes for it.
-#[derive(Clone, Copy)]
+// A fraction, the steps of the cycle that attains it, 0 for 1/0, and the number of passes for it. No `Option` for the steps: `Solving` says
+// of 1/0 that they are 0.
+#[derive(Clone, Copy, Debug, PartialEq, Eq)]
 pub struct Solution {
-    pub p: u32,
-    pub q: u32,
+    pub fraction: Fraction,
     pub steps: usize,
     pub passes: usize,
 }
 
 // The fraction that the cycle of so many steps attains.
-fn attained(rules: Rules, steps: usize, notes: &mut [u32; graph::NOTE_ROOM], m: &[u8]) -> Fraction
-    requires { Ruled rules × Circled rules m.now steps × (links_end ≤ length m.now) × (note_room ≤ length notes.old) }
-    ensures lowers { (P : Plan) (next : List ℕ) (prices : Prices) → Circling P rules next m.now prices steps → Lowers P prices m.now steps result }
-    ensures notes_free { NotesFree notes.old notes.new }
+fn attained(
+    machine: &Machine,
+    steps: usize,
+    notes: &mut [u32; graph::NOTE_ROOM],
+    m: &[u8],
+) -> Fraction
+    requires { Circled machine.now.rules m.now steps × (links_end ≤ length m.now) }
+    ensures { (P : Plan) (next : List ℕ) (claim : Claim) → Circling P machine.now.rules next m.now claim steps → Lowers P claim m.now steps result }
 {
-    let sums = circuit::gains(rules, steps, notes, m);
-    circuit::lowest(sums.kept, sums.ideal)
+    let sums = circuit::gains(machine, steps, notes, m);
+    Fraction::lowest(sums.kept, sums.ideal)
 }
 
 // The smallest fraction of the plan whose n nodes are in the store, from 1/0 down.
 pub fn least(
-    next: &[u8; plan::PAIRS],
-    rules: Rules,
+    machine: &Machine,
     n: usize,
     notes: &mut [u32; graph::NOTE_ROOM],
     m: &mut [u8],
 ) -> Solution
-    requires { Ruled rules × Held rules next.now m.old n × (links_end ≤ length m.old) × (note_room ≤ length notes.old) }
-    ensures solving { (P : Plan) → Planned P rules next.now → Holds P (tasks_in rules) m.old n → Solving P rules next.now m.new n result }
+    requires { Held machine.now.rules machine.now.next m.old n × (links_end ≤ length m.old) }
+    ensures solving { (P : Plan) → Planned P machine.now.rules machine.now.next → Holds P (tasks_in machine.now.rules) m.old n → Solving P machine.now.rules machine.now.next m.new n result }
     ensures only { Only links_at (links_size + steps_size) m.old m.new }
-    ensures notes_free { NotesFree notes.old notes.new }
 {
-    let mut p = 1;
-    let mut q = 0;
+    let mut fraction = Fraction { p: 1, q: 0 };
     let mut steps = 0;
-    let mut found = distances::settle(Prices { p, q, n }, next, rules, notes, m);
-    while found.steps != 0 {
-        let lower = attained(rules, found.steps, notes, m);
-        p = lower.p;
-        q = lower.q;
-        steps = found.steps;
-        found = distances::settle(Prices { p, q, n }, next, rules, notes, m);
-    }
-    Solution {
-        p,
-        q,
-        steps,
-        passes: found.passes,
+    // No `for`: each cycle lowers the fraction, until none is found.
+    loop {
+        match distances::settle(Claim { fraction, n }, machine, notes, m) {
+            Ok(passes) => {
+                return Solution {
+                    fraction,
+                    steps,
+                    passes,
+                };
+            }
+            Err(found) => {
+                fraction = attained(machine, found, notes, m);
+                steps = found;
+            }
+        }
     }
 }

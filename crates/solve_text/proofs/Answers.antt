@@ -6,6 +6,7 @@ use mathlib.Core.Option.{some, none-ne-some, some-injective}
 use Prim.Native.Nat.{ℕ}
 use native.Mathlib.Omega.{arith}
 use lib.ListN.{length}
+use Rattle.std.specs.Prelude.{Ok, Err}
 use Rattle.model.specs.Bytes.{Put}
 use Rattle.model.specs.Certificate.{Certificate}
 use Rattle.model.specs.Limits.{work_room, certificate_room}
@@ -16,9 +17,8 @@ use Rattle.text.proofs.Put.{put-inside}
 use Rattle.io.specs.Counts.{IsPrefixLen}
 use Rattle.refusals.specs.Numbers.{refusal_number}
 use Rattle.refusals.specs.declared.Refusal.{Refusal}
-use Rattle.solver.specs.declared.Answer.{Answer}
-use Rattle.solver.specs.declared.Answer.TheVariants.{Refused, Written}
-use Rattle.solver.specs.Promise.{refused_by, Does, Solves}
+use Rattle.solver.specs.declared.Solved.{Solved}
+use Rattle.solver.specs.Promise.{Answer, refused_by, Does, Solves}
 use Rattle.solver.proofs.Answers.{bytes_of, passes_of}
 use Rattle.solve_text.specs.Bytes.{in_bytes, in_passes, Puts}
 
@@ -43,7 +43,7 @@ module _ {plan work work' out out' : List ℕ} {a : Answer} (solved : Solves pla
   promised : (spell : Certificate → ℕ → List ℕ) (before after : List ℕ) (r : ℕ) → Puts spell due before after r → Promised spell before after r
   promised spell before after r p = (p, puts_inside spell due before after r p)
 
-  module _ (f : Refusal) (e : a ≡ Refused f) where
+  module _ (f : Refusal) (e : a ≡ Err f) where
     -- after a refusal the output is as it was,
     refusal-kept : out' ≡ out
     refusal-kept = by due solved.due
@@ -65,22 +65,22 @@ module _ {plan work work' out out' : List ℕ} {a : Answer} (solved : Solves pla
     pub puts_over : {after : List ℕ} {r : ℕ} → Put out' after 0 (refused_line (refusal_number f)) r → Promised in_bytes out after r
     puts_over {after} {r} put = puts_refusal in_bytes (subst (λ m. Put m after 0 (refused_line (refusal_number f)) r) refusal-kept put)
 
-  module _ (n k : ℕ) (e : a ≡ Written n k) where
+  module _ (s : Solved) (e : a ≡ Ok s) where
     not-refused : {f : ℕ} → refused_by a ≡ some f → ⊥
     not-refused h = none-ne-some _ (sym (ap refused_by e) ∙ h)
 
     -- a certificate is written already
-    pub puts_certificate : Promised in_bytes out out' n
-    puts_certificate = promised in_bytes out out' n (by due solved.due)
+    pub puts_certificate : Promised in_bytes out out' s.bytes
+    puts_certificate = promised in_bytes out out' s.bytes (by due solved.due)
       where
-        by : (d : SolveAnswer) → Does d out out' a → Puts in_bytes d out out' n
+        by : (d : SolveAnswer) → Does d out out' a → Puts in_bytes d out out' s.bytes
         by (refused f) h = absurd (not-refused h.number)
         by (solvable P) h =
             let size = ap bytes_of (sym e ∙ h.answer) in
             record { certificate = h.certificate; passes = h.passes; solved = h.solved; put = record { bytes = h.bytes; next = omega (arith, size) } }
 
     -- the line of its passes
-    pub puts_passes : {before after : List ℕ} {r : ℕ} → Put before after 0 (number_line k) r → Promised in_passes before after r
+    pub puts_passes : {before after : List ℕ} {r : ℕ} → Put before after 0 (number_line s.passes) r → Promised in_passes before after r
     puts_passes {before} {after} {r} put = promised in_passes before after r (by due solved.due)
       where
         by : (d : SolveAnswer) → Does d out out' a → Puts in_passes d before after r

@@ -6,11 +6,9 @@ ghost use Rattle.io.specs.Counts.{IsPrefixLen};
 ghost use Rattle.model.specs.Bytes.{work_after};
 ghost use Rattle.model.specs.Limits.{work_room, certificate_room};
 ghost use Rattle.model.specs.Solve.{solve};
-ghost use Rattle.solver.specs.declared.Answer as declared;
+ghost use Rattle.solver.specs.Promise as solver;
 ghost use Rattle.solver.specs.Promise.{Solves};
 ghost use Rattle.solve_text.specs.Bytes.{in_bytes, in_passes, Puts};
-
-use solver::Answer;
 
 // Writes the certificate of a plan, or the line of its refusal, and answers the number of bytes.
 pub fn put_certificate(out: &mut [u8], plan: &[u8], work: &mut [u8]) -> usize
@@ -20,11 +18,8 @@ pub fn put_certificate(out: &mut [u8], plan: &[u8], work: &mut [u8]) -> usize
     ensures work_after { work.new ≡ work_after (leb work_room (length work.old) && leb certificate_room (length out.old)) work.old }
 {
     match solver::solve(plan, work, out) {
-        Answer::Refused(r) => text::put_refusal(out, r.number()),
-        Answer::Written {
-            bytes: n,
-            passes: _,
-        } => n,
+        Err(refusal) => text::put_refusal(out, refusal.number()),
+        Ok(solved) => solved.bytes,
     }
 }
 
@@ -33,14 +28,11 @@ pub fn put_passes_in(line: &mut [u8], plan: &[u8], work: &mut [u8], out: &mut [u
     requires { 29 ≤ length line.old }
     ensures puts { Puts in_passes (solve plan.now (length work.old) (length out.old)) line.old line.new result }
     ensures prefix_len { IsPrefixLen result line.new }
-    ensures solves { (a : declared.Answer) × Solves plan.now work.old work.new out.old out.new a }
+    ensures solves { (a : solver.Answer) × Solves plan.now work.old work.new out.old out.new a }
 {
     match solver::solve(plan, work, out) {
-        Answer::Refused(f) => text::put_refusal(line, f.number()),
-        Answer::Written {
-            bytes: _,
-            passes: n,
-        } => text::put_number_line(line, 0, n as u64),
+        Err(refusal) => text::put_refusal(line, refusal.number()),
+        Ok(solved) => text::put_number_line(line, 0, solved.passes as u64),
     }
 }
 

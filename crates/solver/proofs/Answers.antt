@@ -8,35 +8,45 @@ use native.Mathlib.Omega.{arith}
 use lib.Dec.{leb}
 use lib.ListN.{length, take}
 use borrow.Author.Tests.{le-leb, lt-leb, le-ltb}
+use Rattle.std.specs.Prelude.{Ok, Err}
 use Rattle.model.specs.Bytes.{cleared, work_after}
 use Rattle.model.specs.Certificate.{read_certificate, certificate_bytes}
 use Rattle.model.specs.Check as check_model
 use Rattle.model.specs.Check.{share, check_read, check_plan, check}
 use Rattle.model.specs.Graph.{nodes, too_large}
 use Rattle.model.specs.Limits.{work_room, certificate_room}
-use Rattle.model.specs.Plan.{Plan, PlanAnswer, read_plan, sound}
+use Rattle.model.specs.Plan.{Plan, IsSound, PlanAnswer, read_plan, sound}
 use Rattle.model.specs.Refusals.{too_many_nodes, short_memory}
 use Rattle.model.specs.Solve.{SolveAnswer, refused, solvable, solve_plan, solve}
 use Rattle.theory.proofs.Accepted.{accepted-iff}
 use Rattle.theory.proofs.Claim.{check-claim}
 use Rattle.words.proofs.Memory.{overwrite-first}
-use Rattle.solver.specs.declared.Answer.{Answer}
-use Rattle.solver.specs.declared.Answer.TheVariants.{Refused, Written}
+use Rattle.plan.specs.View.{plan_of}
+use Rattle.plan.specs.declared.Plan as plan
+use Rattle.machine.specs.Machine.{MachineOf}
+use Rattle.machine.specs.declared.Machine.{Machine}
+use Rattle.graph.specs.View.{Planned}
+use Rattle.graph.proofs.View.{planned-of}
+use Rattle.solver.specs.declared.Solved.{Solved}
 use Rattle.refusals.specs.declared.Refusal.TheVariants.{ShortMemory}
-use Rattle.solver.specs.Promise.{refused_by, Writes, Does, Certifies, Solves}
+use Rattle.solver.specs.Promise.{Answer, refused_by, Writes, Does, Certifies, Solves}
+
+-- a machine's rules and table are its plan's
+pub planned_by : {p : plan.Plan} {m : Machine} → IsSound (plan_of p) → MachineOf p m → Planned (plan_of p) m.rules m.next
+planned_by {p} {m} is_sound of = subst (Planned (plan_of p) m.rules) (sym of.next) (planned-of p m.rules is_sound of.rules)
 
 -- a refusal writes nothing
-not_both : {r : Answer} {n bytes passes : ℕ} → refused_by r ≡ some n → r ≡ Written bytes passes → ⊥
+not_both : {r : Answer} {n : ℕ} {s : Solved} → refused_by r ≡ some n → r ≡ Ok s → ⊥
 not_both {n = n} e d = none-ne-some n (sym (ap refused_by d) ∙ e)
 
 -- the bytes and the passes that are told
 abbrev pub bytes_of : Answer → ℕ
-bytes_of (Refused f) = 0
-bytes_of (Written n k) = n
+bytes_of (Err f) = 0
+bytes_of (Ok s) = s.bytes
 
 abbrev pub passes_of : Answer → ℕ
-passes_of (Refused f) = 0
-passes_of (Written n k) = k
+passes_of (Err f) = 0
+passes_of (Ok s) = s.passes
 
 -- ---- too many nodes, or the certificate
 
@@ -72,13 +82,13 @@ module _ (plan : List ℕ) (P : Plan) (read : read_plan plan ≡ sound P) (befor
       ∙ ap (check_read P) w.solved.form ∙ w.solved.accepted
       ∙ ap (λ (n : ℕ). share c.p c.q n (check_model.allowance c.potentials)) counted
 
-  certified : Does (solve_plan (sound P)) before after r → (n passes : ℕ) → r ≡ Written n passes → Certifies plan P n after
-  certified does n passes e = by (too_large P) refl does
+  certified : Does (solve_plan (sound P)) before after r → (s : Solved) → r ≡ Ok s → Certifies plan P s.bytes after
+  certified does s e = by (too_large P) refl does
     where
-      by : (b : Bool) → too_large P ≡ b → Does (cond b (refused too_many_nodes) (solvable P)) before after r → Certifies plan P n after
+      by : (b : Bool) → too_large P ≡ b → Does (cond b (refused too_many_nodes) (solvable P)) before after r → Certifies plan P s.bytes after
       by true large f = absurd (not_both f.number e)
       by false fits w =
-          let size : length (certificate_bytes w.certificate) ≡ n = ap bytes_of (sym w.answer ∙ e) in
+          let size : length (certificate_bytes w.certificate) ≡ s.bytes = ap bytes_of (sym w.answer ∙ e) in
           let accepted : (lent : ℕ) → work_room ≤ lent → _ = λ lent h.
           subst (λ (k : ℕ). check plan (take k after) lent ≡ share w.certificate.p w.certificate.q (length (nodes P)) (check_model.allowance w.certificate.potentials))
           size (accepts fits w lent h) in record {
@@ -86,7 +96,7 @@ module _ (plan : List ℕ) (P : Plan) (read : read_plan plan ≡ sound P) (befor
             q = w.certificate.q;
             k = check_model.allowance w.certificate.potentials;
             accepted = accepted;
-            claim = check-claim plan (take n after) work_room (accepted work_room (omega arith)) P read;
+            claim = check-claim plan (take s.bytes after) work_room (accepted work_room (omega arith)) P read;
           }
 
 -- ---- the call
@@ -106,19 +116,19 @@ module _ (plan work out : List ℕ) where
 
   -- 11
   short : (a b : Bool) → leb work_room (length work) ≡ a → leb certificate_room (length out) ≡ b → (a && b) ≡ false →
-      Solves plan work work out out (Refused ShortMemory)
+      Solves plan work work out out (Err ShortMemory)
   short a b e d none_lent = record {
     due =
-        subst (λ (s : SolveAnswer). Does s out out (Refused ShortMemory))
+        subst (λ (d : SolveAnswer). Does d out out (Err ShortMemory))
         (sym (solve-tested a b e d ∙ ap (λ (t : Bool). cond t (solve_plan (read_plan plan)) (refused short_memory)) none_lent)) (record { number = refl; kept = refl });
-    certifies = λ P read n passes e. absurd (not_both {n = short_memory} refl e);
+    certifies = λ P read s e. absurd (not_both {n = short_memory} refl e);
     memory = sym (memory-tested a b e d ∙ ap (λ (t : Bool). work_after t work) none_lent);
   }
 
-  pub short-work : length work < work_room → Solves plan work work out out (Refused ShortMemory)
+  pub short-work : length work < work_room → Solves plan work work out out (Err ShortMemory)
   short-work h = short false (leb certificate_room (length out)) (lt-leb work_room (length work) h) refl refl
 
-  pub short-out : work_room ≤ length work → length out < certificate_room → Solves plan work work out out (Refused ShortMemory)
+  pub short-out : work_room ≤ length work → length out < certificate_room → Solves plan work work out out (Err ShortMemory)
   short-out w h = short true false (le-leb work_room (length work) w) (lt-leb certificate_room (length out) h) refl
 
   -- enough is lent
@@ -127,7 +137,7 @@ module _ (plan work out : List ℕ) where
   enough work' out' r w h does clear =
       let e = le-leb work_room (length work) w in
       let d = le-leb certificate_room (length out) h in record {
-        due = subst (λ (s : SolveAnswer). Does s out out' r) (sym (solve-tested true true e d)) does;
+        due = subst (λ (d : SolveAnswer). Does d out out' r) (sym (solve-tested true true e d)) does;
         certifies = λ P read. certified plan P read out out' r (subst (λ (a : PlanAnswer). Does (solve_plan a) out out' r) read does);
         memory = clear ∙ sym (memory-tested true true e d);
       }

@@ -1,5 +1,6 @@
 -- What the solve call promises.
-use Rattle.std.specs.Prelude.{◌≡◌, ◌&&◌, List, ℕ, ◌≤◌, leb, length, take}
+use Rattle.std.specs.Prelude as rust
+use Rattle.std.specs.Prelude.{◌≡◌, ◌&&◌, List, ℕ, ◌≤◌, leb, length, take, Ok, Err}
 use Rattle.std.proofs.Math.Option.{Option, none, some}
 use Rattle.model.specs.Bytes.{overwrite, work_after}
 use Rattle.model.specs.Certificate.{Certificate, certificate_bytes}
@@ -8,15 +9,20 @@ use Rattle.model.specs.Graph.{nodes}
 use Rattle.model.specs.Limits.{work_room, certificate_room}
 use Rattle.model.specs.Plan as model
 use Rattle.model.specs.Share.{KeptShare}
-use Rattle.model.specs.Solve.{Solved, SolveAnswer, refused, solvable, solve}
+use Rattle.model.specs.Solve as solve_model
+use Rattle.model.specs.Solve.{SolveAnswer, refused, solvable, solve}
 use Rattle.refusals.specs.Numbers.{refusal_number}
-use Rattle.solver.specs.declared.Answer.{Answer}
-use Rattle.solver.specs.declared.Answer.TheVariants.{Refused, Written}
+use Rattle.refusals.specs.declared.Refusal.{Refusal}
+use Rattle.solver.specs.declared.Solved.{Solved}
+
+-- what the call answers: how many bytes it wrote and after how many passes, or why it wrote none
+abbrev pub Answer : Type 0
+Answer = rust.Result Solved Refusal
 
 -- the number of a refusal
 abbrev pub refused_by : Answer → Option ℕ
-refused_by (Refused r) = some (refusal_number r)
-refused_by (Written n k) = none
+refused_by (Err r) = some (refusal_number r)
+refused_by (Ok s) = none
 
 -- "A refusal gives its number, and the output bytes keep what they had"
 pub record Refuses (n : ℕ) (before after : List ℕ) (r : Answer) : Type 0 where
@@ -27,8 +33,8 @@ pub record Refuses (n : ℕ) (before after : List ℕ) (r : Answer) : Type 0 whe
 pub record Writes (P : model.Plan) (before after : List ℕ) (r : Answer) : Type 0 where
   pub certificate : Certificate
   pub passes : ℕ
-  pub solved : Solved P certificate passes
-  pub answer : r ≡ Written (length (certificate_bytes certificate)) passes
+  pub solved : solve_model.Solved P certificate passes
+  pub answer : r ≡ Ok (record { bytes = length (certificate_bytes certificate); passes = passes })
   pub bytes : after ≡ overwrite before 0 (certificate_bytes certificate)
 
 -- what is due is done
@@ -47,5 +53,5 @@ pub record Certifies (plan : List ℕ) (P : model.Plan) (n : ℕ) (after : List 
 -- for all plan bytes, work memory and output
 pub record Solves (plan work work' out out' : List ℕ) (r : Answer) : Type 0 where
   pub due : Does (solve plan (length work) (length out)) out out' r
-  pub certifies : (P : model.Plan) → model.read_plan plan ≡ model.sound P → (n passes : ℕ) → r ≡ Written n passes → Certifies plan P n out'
+  pub certifies : (P : model.Plan) → model.read_plan plan ≡ model.sound P → (s : Solved) → r ≡ Ok s → Certifies plan P s.bytes out'
   pub memory : work' ≡ work_after (leb work_room (length work) && leb certificate_room (length out)) work

@@ -4,7 +4,7 @@ use mathlib.Core.List.{List}
 use Prim.Native.Nat.{ℕ, ◌+◌, ◌≤◌, ◌<◌}
 use native.Mathlib.Omega.{arith}
 use borrow.Author.Tests.{lt-ltb, le-ltb}
-use Rattle.store.specs.declared.Found.TheVariants.{Full, At}
+use Rattle.std.specs.Prelude.{None, Some}
 use Rattle.words.proofs.Free.{only_refl}
 use Rattle.store.specs.Store.{max_rows, rows_in, index_in, Distinct, Indexed, Appended, rows_with, found_in, Kept}
 use Rattle.store.proofs.Rows.{rows-length}
@@ -12,7 +12,7 @@ use Rattle.store.proofs.Search.{index-le, distinct_snoc}
 
 module _ (m : List ℕ) (n : ℕ) (row : List ℕ) (i : ℕ) (distinct : Distinct (rows_in m n)) (at : i ≡ index_in (rows_in m n) row) where
   -- it is there
-  pub kept_there : Indexed m n → i < n → Kept m m n row (At i n)
+  pub kept_there : Indexed m n → i < n → Kept m m n row (Some (record { index = i; count = n }))
   unfolding found_in rows_with
   kept_there index there =
       record {
@@ -25,7 +25,7 @@ module _ (m : List ℕ) (n : ℕ) (row : List ℕ) (i : ℕ) (distinct : Distinc
       }
 
   -- it is not there, and there is no room
-  pub kept_full : Indexed m n → n ≤ i → max_rows ≤ n → Kept m m n row Full
+  pub kept_full : Indexed m n → n ≤ i → max_rows ≤ n → Kept m m n row None
   unfolding found_in rows_with
   kept_full index out full =
       record {
@@ -38,7 +38,7 @@ module _ (m : List ℕ) (n : ℕ) (row : List ℕ) (i : ℕ) (distinct : Distinc
       }
 
   -- it is not there, and is appended
-  pub kept_new : (m' : List ℕ) → n ≤ i → n < max_rows → Appended m m' n row → Kept m m' n row (At i (n + 1))
+  pub kept_new : (m' : List ℕ) → n ≤ i → n < max_rows → Appended m m' n row → Kept m m' n row (Some (record { index = i; count = n + 1 }))
   unfolding found_in rows_with
   kept_new m' out room new =
       record {

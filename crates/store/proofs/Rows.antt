@@ -1,7 +1,7 @@
 -- Laws of the rows in memory. Assumes nothing.
 use mathlib.Core.Path.{◌≡◌, sym, ap, ◌∙◌}
 use mathlib.Core.List.{List, [], ◌∷◌, ◌++◌, map, map-append}
-use Prim.Native.Nat.{ℕ, ◌+◌, ◌*◌, ◌/◌, ◌%◌, ◌≤◌, ◌<◌}
+use Prim.Native.Nat.{ℕ, ◌+◌, ◌*◌, ◌/◌, ◌%◌, ◌<◌}
 use native.Mathlib.Nat.{zero-add, mod-lt, div-lt_iff_lt-mul, not-suc-le-zero}
 use native.Mathlib.Omega.{arith}
 use lib.Dec.{lit<}
@@ -10,19 +10,11 @@ use lib.Seq.{ext_get_or, get_or-take, get_or-drop}
 use Rattle.model.specs.Bytes.{number, part}
 use Rattle.model.specs.Lists.{up_from}
 use Rattle.model.proofs.Lists.{length-up_from, get_or-table, up_from-append}
-use Rattle.words.proofs.Memory.{part_length}
 use Rattle.store.specs.Store.{row_bytes, row_at, rows_in, Distinct, hash_base, hash_step, hash_words, cell_bytes, hash_of, hashes}
 
 -- a byte of a row
 pub row-byte : (m : List ℕ) (j i : ℕ) → i < row_bytes → get_or (row_at m j) i 0 ≡ get_or m (row_bytes * j + i) 0
 row-byte m j i h = get_or-take row_bytes (drop (row_bytes * j) m) i 0 h ∙ get_or-drop (row_bytes * j) m i 0
-
--- a row that has these bytes
-pub row_ext : (m : List ℕ) (j : ℕ) (row : List ℕ) → row_bytes * j + row_bytes ≤ length m → length row ≡ row_bytes
-    → ((i : ℕ) → i < row_bytes → get_or m (row_bytes * j + i) 0 ≡ get_or row i 0) → row_at m j ≡ row
-row_ext m j row fits size same =
-    let long : length (row_at m j) ≡ row_bytes = part_length m (row_bytes * j) row_bytes fits in
-    ext_get_or 0 (row_at m j) row (long ∙ sym size) (λ i below. let h : i < row_bytes = omega arith in row-byte m j i h ∙ same i h)
 
 pub rows-length : (m : List ℕ) (n : ℕ) → length (rows_in m n) ≡ n
 unfolding rows_in

@@ -1,16 +1,24 @@
 -- Laws of writes into the store's memory. Assumes nothing.
 use mathlib.Core.Path.{◌≡◌, refl, sym, ap, ◌∙◌}
-use mathlib.Core.List.{List}
+use mathlib.Core.List.{List, ◌++◌, append_assoc}
 use Prim.Native.Nat.{ℕ, zero, suc, ◌+◌, ◌*◌, ◌≤◌, ◌<◌}
 use native.Mathlib.Nat.{zero-mul, zero-add, add_assoc}
 use native.Mathlib.Omega.{arith}
-use lib.ListN.{length, replicate, length-replicate, get_or-replicate}
-use lib.Seq.{get_or-take, get_or-drop, ext_get_or}
+use lib.ListN.{length, take, drop, replicate, length-replicate, get_or-replicate}
+use lib.Seq.{get_or-take, get_or-drop, ext_get_or, drop-drop}
+use borrow.Rule.Slice.PartMut.{put_mid}
 use Rattle.model.specs.Bytes.{number, part, overwrite}
 use Rattle.words.proofs.Free.{overwrite-only}
 use Rattle.words.proofs.Memory.{overwrite-length, overwrite-inside, part_length}
 use Rattle.words.proofs.Numbers.{number-cons}
 use Rattle.store.specs.Store.{buckets_at, store_bytes, hashes, last_of, Cleared}
+
+-- a part of a list that is written whole
+pub overwrite-part_whole : (at k : ℕ) (xs ys : List ℕ) → length ys ≡ k → put_mid at k xs ys ≡ overwrite xs at ys
+unfolding overwrite
+overwrite-part_whole at k xs ys e =
+    ap (λ (l : List ℕ). take at xs ++ (ys ++ l)) (drop-drop k at xs ∙ ap (λ (m : ℕ). drop (at + m) xs) (sym e))
+    ∙ sym (append_assoc (take at xs) ys (drop (at + length ys) xs))
 
 number-zeros : (k : ℕ) → number (replicate k 0) ≡ 0
 unfolding number

@@ -4,8 +4,9 @@ use Rattle.model.specs.Bytes.{number, part, Only}
 use Rattle.model.specs.Discovery.{number_in}
 use Rattle.model.specs.Limits.{max_tasks, max_window, max_nodes}
 use Rattle.model.specs.Lists.{up_from, same_numbers}
-use Rattle.store.specs.declared.Found.{Found}
-use Rattle.store.specs.declared.Found.TheVariants.{Full, At}
+use Rattle.std.specs.Prelude as rust
+use Rattle.std.specs.Prelude.{None, Some}
+use Rattle.store.specs.declared.Place.{Place}
 
 -- the bytes of a row, a node's cells, two of its pattern and one of its state; the most rows, and the number of hashes
 abbrev pub cell_bytes : ℕ
@@ -41,6 +42,11 @@ rows_in memory n = map (row_at memory) (up_from 0 n)
 -- the place of the first row equal to this one; the number of rows where there is none
 unfoldable pub index_in : List (List ℕ) → List ℕ → ℕ
 index_in = number_in same_numbers
+
+-- the number of a row that is found among n, n where none is
+abbrev pub index_or : ℕ → rust.Option ℕ → ℕ
+index_or n None = n
+index_or n (Some i) = i
 
 -- no two rows are equal
 pub record Distinct (rows : List (List ℕ)) : Type 0 where
@@ -94,19 +100,19 @@ pub record Appended (memory memory' : List ℕ) (n : ℕ) (row : List ℕ) : Typ
 unfoldable pub rows_with : List (List ℕ) → List ℕ → List (List ℕ)
 rows_with rows row = cond (ltb (index_in rows row) (length rows)) rows (cond (ltb (length rows) max_rows) (rows ++ (row ∷ [])) rows)
 
--- the answer: its index and the number of rows
-unfoldable pub found_in : List (List ℕ) → List ℕ → Found
+-- the answer: its index and the number of rows, if there is room
+unfoldable pub found_in : List (List ℕ) → List ℕ → rust.Option Place
 found_in rows row =
-    cond (ltb (index_in rows row) (length rows)) (At (index_in rows row) (length rows))
-    (cond (ltb (length rows) max_rows) (At (index_in rows row) (length rows + 1)) Full)
+    cond (ltb (index_in rows row) (length rows)) (Some (record { index = index_in rows row; count = length rows }))
+    (cond (ltb (length rows) max_rows) (Some (record { index = index_in rows row; count = length rows + 1 })) None)
 
 -- how many rows there are after an answer
-abbrev pub count_after : ℕ → Found → ℕ
-count_after n Full = n
-count_after n (At index count) = count
+abbrev pub count_after : ℕ → rust.Option Place → ℕ
+count_after n None = n
+count_after n (Some p) = p.count
 
 -- what finding or appending a row leaves
-pub record Kept (memory memory' : List ℕ) (n : ℕ) (row : List ℕ) (r : Found) : Type 0 where
+pub record Kept (memory memory' : List ℕ) (n : ℕ) (row : List ℕ) (r : rust.Option Place) : Type 0 where
   pub found : r ≡ found_in (rows_in memory n) row
   pub rows : rows_in memory' (count_after n r) ≡ rows_with (rows_in memory n) row
   pub index : Indexed memory' (count_after n r)

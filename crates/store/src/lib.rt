@@ -1,10 +1,10 @@
 // Rows of bytes in lent memory, numbered in order and found by their contents.
 #![tactic(auto)]
 
-ghost use Rattle.std.specs.Prelude.{◌≡◌, ◌+◌, ◌*◌, ◌^◌, ◌≤◌, ◌<◌, length};
+ghost use Rattle.std.specs.Prelude.{◌≡◌, ℕ, ◌+◌, ◌*◌, ◌^◌, ◌≤◌, ◌<◌, length, Some};
 ghost use Rattle.model.specs.Bytes.{bytes, overwrite};
 ghost use Rattle.model.specs.Lists.{same_numbers};
-ghost use Rattle.store.specs.Store.{row_bytes, max_rows, hashes, store_bytes, row_at, rows_in, index_in, Distinct, hash_base, hash_step, hash_of, entry_at, Indexed, Cleared, Appended, Kept};
+ghost use Rattle.store.specs.Store.{max_rows, hashes, store_bytes, row_at, rows_in, index_in, index_or, Distinct, hash_base, hash_step, hash_of, entry_at, Indexed, Cleared, Appended, Kept};
 
 use node::Node;
 
@@ -25,11 +25,11 @@ const CHAIN: usize = BUCKETS + 2 * HASHES;
 
 pub const STORE_BYTES: usize = CHAIN + 2 * MAX_ROWS;
 
-// A row's index and the number of rows, or that there is no room for one more.
+// A row's index, and the number of rows.
 #[derive(Clone, Copy)]
-pub enum Found {
-    Full,
-    At { index: usize, count: usize },
+pub struct Place {
+    pub index: usize,
+    pub count: usize,
 }
 
 // Makes the index that of no rows.
@@ -37,31 +37,21 @@ pub fn clear_index(m: &mut [u8])
     requires { store_bytes ≤ length m.old }
     ensures { Cleared m.old m.new }
 {
-    words::fill(m, BUCKETS, 2 * HASHES, 0);
+    m[BUCKETS..BUCKETS + 2 * HASHES].fill(0);
 }
 
 // A row's hash: the cells in words of four bytes, then the pattern with the state, and the highest bits of what they give.
 fn hash(row: &[u8; ROW_BYTES]) -> usize
-    requires { length row.now ≡ row_bytes }
     ensures { (result ≡ hash_of row.now) × (result < hashes) }
 {
     let mut h = 0;
-    let mut k = 0;
-    while k < CELL_WORDS {
+    for k in 0..CELL_WORDS {
         h = hash_step(h, words::read_u32(row, 4 * k));
-        k += 1;
     }
-    let pattern = words::read_u16(row, Node::CELLS) as u32;
-    let last = pattern * 256 + wide(row[Node::CELLS + 2]);
+    let pattern = u32::from(words::read_u16(row, Node::CELLS));
+    let last = pattern * 256 + u32::from(row[Node::CELLS + 2]);
     let mixed = hash_step(hash_step(h, last), 0);
     (mixed / 4194304) as usize
-}
-
-// A byte, at a wider type.
-fn wide(b: u8) -> u32
-    ensures { (result ≡ b) × (result < 256) }
-{
-    b as u32
 }
 
 // The hash of some words and one more.
@@ -69,7 +59,7 @@ fn hash_step(h: u64, w: u32) -> u64
     requires { h < hash_base }
     ensures { (result ≡ hash_step h w) × (result < hash_base) }
 {
-    (h * 2654435769 + w as u64) % 4294967296
+    (h * 2654435769 + u64::from(w)) % 4294967296
 }
 
 // The j-th row.
@@ -77,72 +67,68 @@ pub fn row(m: &[u8], j: usize) -> [u8; ROW_BYTES]
     requires { (j < max_rows) × (store_bytes ≤ length m.now) }
     ensures { result ≡ row_at m.now j }
 {
+    let at = ROW_BYTES * j;
     let mut out = [0u8; ROW_BYTES];
-    words::copy(m, ROW_BYTES * j, &mut out, 0, ROW_BYTES);
+    out.copy_from_slice(&m[at..at + ROW_BYTES]);
     out
 }
 
 // Whether the j-th row is this one.
 pub fn same_row(m: &[u8], j: usize, row: &[u8; ROW_BYTES]) -> bool
-    requires { (j < max_rows) × (store_bytes ≤ length m.now) × (length row.now ≡ row_bytes) }
+    requires { (j < max_rows) × (store_bytes ≤ length m.now) }
     ensures { result ≡ same_numbers (row_at m.now j) row.now }
 {
     let at = ROW_BYTES * j;
-    let mut same = 0;
-    while same < ROW_BYTES {
-        if m[at + same] != row[same] {
-            return false;
-        }
-        same += 1;
-    }
-    true
+    m[at..at + ROW_BYTES] == row[..]
 }
 
-// The number of the row equal to this one, among n distinct rows; n where there is none.
-pub fn find(m: &[u8], n: usize, row: &[u8; ROW_BYTES]) -> usize
-    requires { Indexed m.now n × Distinct (rows_in m.now n) × (length row.now ≡ row_bytes) }
-    ensures { result ≡ index_in (rows_in m.now n) row.now }
+// The number of the row equal to this one, among n distinct rows, if there is one. Memory and number are no struct, since the rows are the
+// front of lent memory that others have the rest of.
+pub fn find(m: &[u8], n: usize, row: &[u8; ROW_BYTES]) -> Option<usize>
+    requires { Indexed m.now n × Distinct (rows_in m.now n) }
+    ensures index { index_or n result ≡ index_in (rows_in m.now n) row.now }
+    ensures below { (i : ℕ) → result ≡ Some i → i < n }
 {
+    // A walk down a chain: each entry is the number of the row before with this hash and 1, and no count tells where it ends.
     let mut next = entry(m, BUCKETS, hash(row));
-    while 0 < next {
-        let j = next - 1;
+    while let Some(j) = next.checked_sub(1) {
         if same_row(m, j, row) {
-            return j;
+            return Some(j);
         }
         next = entry(m, CHAIN, j);
     }
-    n
+    None
 }
 
 // Appends a row to the n that are there.
 pub fn append(m: &mut [u8], n: usize, row: &[u8; ROW_BYTES])
-    requires { Indexed m.old n × (n < max_rows) × (length row.now ≡ row_bytes) }
+    requires { Indexed m.old n × (n < max_rows) }
     ensures { Appended m.old m.new n row.now }
 {
     let h = hash(row);
     let before = entry(m, BUCKETS, h);
-    words::copy(row, 0, m, ROW_BYTES * n, ROW_BYTES);
+    let at = ROW_BYTES * n;
+    m[at..at + ROW_BYTES].copy_from_slice(row);
     put_entry(m, CHAIN, n, before);
     put_entry(m, BUCKETS, h, n + 1);
 }
 
-// The index of a row among n distinct ones. A row that is not there is appended.
-pub fn find_or_append(m: &mut [u8], n: usize, row: &[u8; ROW_BYTES]) -> Found
-    requires { Indexed m.old n × Distinct (rows_in m.old n) × (length row.now ≡ row_bytes) }
+// The place of a row among n distinct ones. A row that is not there is appended, if there is room.
+pub fn find_or_append(m: &mut [u8], n: usize, row: &[u8; ROW_BYTES]) -> Option<Place>
+    requires { Indexed m.old n × Distinct (rows_in m.old n) }
     ensures { Kept m.old m.new n row.now result }
 {
-    let index = find(m, n, row);
-    if index < n {
-        return Found::At { index, count: n };
+    if let Some(index) = find(m, n, row) {
+        return Some(Place { index, count: n });
     }
     if n < MAX_ROWS {
         append(m, n, row);
-        return Found::At {
-            index,
+        return Some(Place {
+            index: n,
             count: n + 1,
-        };
+        });
     }
-    Found::Full
+    None
 }
 
 // The i-th number of the table at a place.
@@ -150,7 +136,7 @@ fn entry(m: &[u8], at: usize, i: usize) -> usize
     requires { (at + 2 * i + 2 ≤ store_bytes) × (store_bytes ≤ length m.now) }
     ensures { result ≡ entry_at m.now at i }
 {
-    words::read_u16(m, at + 2 * i) as usize
+    usize::from(words::read_u16(m, at + 2 * i))
 }
 
 // Writes the i-th number of the table at a place.

@@ -10,9 +10,9 @@ pub fn put_bytes(out: &mut [u8], at: usize, bytes: &[u8]) -> usize
     requires { at + length bytes.now ≤ length out.old }
     ensures { Put out.old out.new at bytes.now result }
 {
-    let n = bytes.len();
-    words::copy(bytes, 0, out, at, n);
-    at + n
+    let end = at + bytes.len();
+    out[at..end].copy_from_slice(bytes);
+    end
 }
 
 // Writes n in decimal at a place, and answers the place after it.
@@ -22,8 +22,7 @@ pub fn put_number(out: &mut [u8], at: usize, n: u64) -> usize
 {
     let mut digits = [0u8; 20];
     let k = io::decimal(n, &mut digits);
-    words::copy(&digits[..k], 0, out, at, k);
-    at + k
+    put_bytes(out, at, &digits[..k])
 }
 
 // Writes n in decimal at a place and some bytes behind it, and answers the place after them.

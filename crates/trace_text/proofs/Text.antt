@@ -23,8 +23,7 @@ use Rattle.theory.proofs.Schedules.{task-sound}
 use Rattle.policy.proofs.Gain.{gain-most}
 use Rattle.refusals.specs.Numbers.{refusal_number}
 use Rattle.refusals.specs.declared.Refusal.{Refusal}
-use Rattle.refusals.specs.declared.Answer.TheVariants as Answer
-use Rattle.refusals.specs.declared.Answer.TheVariants.{Refused}
+use Rattle.std.specs.Prelude.{Ok, Err}
 use Rattle.refusals.specs.Told.{Told}
 use Rattle.tracer.proofs.Slots.{row-length, row-bytes, row_cut, slots_length}
 use Rattle.trace_text.specs.Rows.{row_lines}
@@ -90,12 +89,12 @@ module _ (plan labels before after : List ℕ) (lent : ℕ) (same : lent ≡ tra
   at_room = ap (trace plan labels) same
 
   -- a refusal is its line
-  pub refusal-text : (r : Refusal) → Told trace_bytes (trace plan labels lent) before after (Refused r) →
+  pub refusal-text : (r : Refusal) → Told trace_bytes (trace plan labels lent) before after (Err r) →
       refused_line (refusal_number r) ≡ trace_text labels (trace plan labels trace_room)
   unfolding trace_text
   refusal-text r h = go (trace plan labels lent) refl h ∙ ap (trace_text labels) at_room
     where
-      go : (a : Writing (List Row)) → trace plan labels lent ≡ a → Told trace_bytes a before after (Refused r) → refused_line (refusal_number r) ≡ trace_text labels (trace plan labels lent)
+      go : (a : Writing (List Row)) → trace plan labels lent ≡ a → Told trace_bytes a before after (Err r) → refused_line (refusal_number r) ≡ trace_text labels (trace plan labels lent)
       go (refuses n) e t =
           let same_number : refusal_number r ≡ n = let k = t.answer in cc in
           ap refused_line same_number ∙ sym (ap (trace_text labels) e)
@@ -106,11 +105,11 @@ module _ (plan labels before after : List ℕ) (lent : ℕ) (same : lent ≡ tra
     pub few : length labels ≤ max_labels
     pub text : trace_header ++ row_lines 0 labels after ≡ trace_text labels (trace plan labels trace_room)
 
-  pub table-text : (n : ℕ) → Told trace_bytes (trace plan labels lent) before after (Answer.Written n) → Table
+  pub table-text : (n : ℕ) → Told trace_bytes (trace plan labels lent) before after (Ok n) → Table
   unfolding trace_text output_after overwrite
   table-text n h = go (trace plan labels lent) refl h
     where
-      go : (a : Writing (List Row)) → trace plan labels lent ≡ a → Told trace_bytes a before after (Answer.Written n) → Table
+      go : (a : Writing (List Row)) → trace plan labels lent ≡ a → Told trace_bytes a before after (Ok n) → Table
       go (refuses m) e t = let k = t.answer in let z : ◌≡◌ {A = ℕ} 0 1 = cc in absurd (omega arith)
       go (writes rs) e t =
           let w = traced-written plan labels lent rs e in

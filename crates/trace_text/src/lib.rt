@@ -12,7 +12,6 @@ ghost use Rattle.tracer.specs.Rows.{row_view};
 ghost use Rattle.trace_text.specs.Rows.{line_room, text_room, row_in, row_lines};
 
 use node::Node;
-use refusals::Answer;
 use tracer::{ROW_BYTES, Row};
 
 // The most bytes of a line, and of a text with its header.
@@ -36,6 +35,7 @@ fn put_line(out: &mut [u8], at: usize, slot: usize, label: u8, row: Row) -> usiz
     requires { at + length (trace_line slot label (row_view row)) ≤ length out.old }
     ensures { Put out.old out.new at (trace_line slot label (row_view row)) result }
 {
+    // The casts widen and stand in the proof as the numbers themselves; each From would be a result with a name of its own.
     let a = text::put_three_fields(out, at, slot as u64, label as u64, row.ran as u64);
     let b = text::put_field(out, a, row.gain as u64);
     text::put_number_line(out, b, row.cut as u64)
@@ -47,11 +47,9 @@ fn put_rows(out: &mut [u8], at: usize, labels: &[u8], rows: &[u8]) -> usize
     ensures { Put out.old out.new at (row_lines 0 labels.now rows.now) result }
 {
     let mut end = at;
-    let mut i = 0;
-    while i < labels.len() {
+    for (i, label) in labels.iter().enumerate() {
         let row = read_row(rows, ROW_BYTES * i);
-        end = put_line(out, end, i, labels[i], row);
-        i += 1;
+        end = put_line(out, end, i, *label, row);
     }
     end
 }
@@ -87,9 +85,8 @@ pub fn put_trace(out: &mut [u8], plan: &[u8], labels: &[u8]) -> usize
     ensures prefix_len { IsPrefixLen result out.new }
 {
     let mut rows = rows_room();
-    let answer = tracer::trace(plan, labels, &mut rows);
-    match answer {
-        Answer::Refused(r) => text::put_refusal(out, r.number()),
-        Answer::Written(_) => put_table(out, labels, &rows),
+    match tracer::trace(plan, labels, &mut rows) {
+        Err(r) => text::put_refusal(out, r.number()),
+        Ok(_) => put_table(out, labels, &rows),
     }
 }

@@ -19,16 +19,15 @@ use Rattle.model.specs.Schedule.{admits}
 use Rattle.model.specs.Trace.{Row, slots, trace_run, trace, trace_bytes, row_size}
 use Rattle.model.proofs.Calls as calls
 use Rattle.theory.proofs.Interrupted.{traced-slots, traced-cuts}
-use Rattle.refusals.specs.declared.Answer.{Answer}
-use Rattle.refusals.specs.declared.Answer.TheVariants.{Written}
-use Rattle.refusals.specs.Told.{Told}
+use Rattle.std.specs.Prelude.{Ok}
+use Rattle.refusals.specs.Told.{Answer, Told}
 use Rattle.refusals.proofs.Told as told
 use Rattle.tracer.specs.Promise.{Traces}
 use Rattle.tracer.proofs.Slots.{cut_column, slots_length, trace-length}
 
 -- a trace has a row for each label
 pub told-trace : (a : Writing (List Row)) (P : Plan) (ls before after : List ℕ) → a ≡ writes (slots P none [] ls) →
-    after ≡ overwrite before 0 (trace_bytes (slots P none [] ls)) → Told trace_bytes a before after (Written (row_size * length ls))
+    after ≡ overwrite before 0 (trace_bytes (slots P none [] ls)) → Told trace_bytes a before after (Ok (row_size * length ls))
 told-trace a P ls before after e o =
     told.told-written trace_bytes a (slots P none [] ls) before after (row_size * length ls) e
     (sym (trace-length (slots P none [] ls) ∙ ap (λ (n : ℕ). row_size * n) (slots_length P none [] ls))) o

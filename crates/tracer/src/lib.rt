@@ -9,36 +9,32 @@ ghost use Rattle.model.specs.Plan as model;
 ghost use Rattle.model.specs.Schedule.{admits};
 ghost use Rattle.model.specs.Trace as model_trace;
 ghost use Rattle.model.specs.Trace.{row_size};
-ghost use Rattle.plan.specs.View.{arcs_in, plan_of, Sized, StatesFit};
-ghost use Rattle.policy.specs.View.{tasks_in, Ruled};
+ghost use Rattle.plan.specs.View.{arcs_in, plan_of};
+ghost use Rattle.policy.specs.View.{tasks_in};
 ghost use Rattle.refusals.specs.Told.{Told};
 ghost use Rattle.tracer.specs.Promise.{Traces};
 ghost use Rattle.tracer.specs.Rows.{row_view};
 
+use machine::Machine;
 use node::Node;
-use plan::{Outcome, Plan};
-use policy::Rules;
-use refusals::{Answer, Refusal};
+use plan::Plan;
+use refusals::Refusal;
 
 // The most that a trace takes, and the most labels.
 pub const TRACE_ROOM: usize = Node::TRACE_ROOM;
 
 pub const MAX_LABELS: usize = Node::MAX_LABELS;
 
-// Whether a plan with this table admits the labels.
-fn admitted(next: &[u8; plan::PAIRS], labels: &[u8]) -> bool
-    requires { StatesFit next.now }
-    ensures { (P : model.Plan) → P.arcs ≡ arcs_in next.now → result ≡ admits P labels.now }
+// Whether a machine admits the labels.
+fn admitted(machine: &Machine, labels: &[u8]) -> bool
+    ensures { (P : model.Plan) → P.arcs ≡ arcs_in machine.now.next → result ≡ admits P labels.now }
 {
     let mut state = 0;
-    let mut i = 0;
-    while i < labels.len() {
-        let to = plan::next_state(next, state, labels[i]);
-        if to == 0 {
+    for label in labels {
+        let Some(to) = machine.next(state, *label) else {
             return false;
-        }
-        state = to - 1;
-        i += 1;
+        };
+        state = to;
     }
     true
 }
@@ -65,15 +61,14 @@ fn put_row(out: &mut [u8], at: usize, row: Row)
 }
 
 // Writes the row of each label's slot.
-fn write_slots(rules: Rules, labels: &[u8], out: &mut [u8])
-    requires { Ruled rules × (row_size * length labels.now ≤ length out.old) }
-    ensures { (P : model.Plan) → P.tasks ≡ tasks_in rules → P.policy ≡ rules.policy → out.new ≡ overwrite out.old 0 (model_trace.trace_bytes (model_trace.slots P none [] labels.now)) }
+fn write_slots(machine: &Machine, labels: &[u8], out: &mut [u8])
+    requires { row_size * length labels.now ≤ length out.old }
+    ensures { (P : model.Plan) → P.tasks ≡ tasks_in machine.now.rules → P.policy ≡ machine.now.rules.policy → out.new ≡ overwrite out.old 0 (model_trace.trace_bytes (model_trace.slots P none [] labels.now)) }
 {
     let mut cells = policy::no_jobs();
-    let mut ran = policy::NO_CELL;
-    let mut slot = 0;
-    while slot < labels.len() {
-        let done = policy::slot(rules, cells, labels[slot]);
+    let mut ran = None;
+    for (slot, label) in labels.iter().enumerate() {
+        let done = policy::slot(&machine.rules, &cells, *label);
         let task = policy::task_number(done.ran);
         let cut = policy::displaced(&cells, ran, done.ran);
         let row = Row {
@@ -84,39 +79,33 @@ fn write_slots(rules: Rules, labels: &[u8], out: &mut [u8])
         put_row(out, ROW_BYTES * slot, row);
         cells = done.cells;
         ran = done.ran;
-        slot += 1;
     }
 }
 
 // The trace of a sound plan.
-fn trace_plan(plan: Plan, labels: &[u8], out: &mut [u8]) -> Answer
-    requires { Sized plan × model.IsSound (plan_of plan) × (trace_room ≤ length out.old) }
+fn trace_plan(plan: Plan, labels: &[u8], out: &mut [u8]) -> Result<usize, Refusal>
+    requires { model.IsSound (plan_of plan) × (trace_room ≤ length out.old) }
     ensures { Told model_trace.trace_bytes (model_trace.trace_run (plan_of plan) labels.now) out.old out.new result }
 {
     let n = labels.len();
-    let next = plan.next;
+    let machine = Machine::of(plan);
     if MAX_LABELS < n {
-        return Answer::Refused(Refusal::TooManyLabels);
+        return Err(Refusal::TooManyLabels);
     }
-    if !admitted(&next, labels) {
-        return Answer::Refused(Refusal::NotAdmitted);
+    if !admitted(&machine, labels) {
+        return Err(Refusal::NotAdmitted);
     }
-    write_slots(policy::rules_of(plan), labels, out);
-    Answer::Written(ROW_BYTES * n)
+    write_slots(&machine, labels, out);
+    Ok(ROW_BYTES * n)
 }
 
 // The trace of the plan's policy over the labels, for all bytes.
-pub fn trace(plan: &[u8], labels: &[u8], out: &mut [u8]) -> Answer
+pub fn trace(plan: &[u8], labels: &[u8], out: &mut [u8]) -> Result<usize, Refusal>
     ensures { Traces plan.now labels.now out.old out.new result }
 {
     if out.len() < TRACE_ROOM {
-        return Answer::Refused(Refusal::ShortMemory);
+        return Err(Refusal::ShortMemory);
     }
-    let read = plan::read(plan);
-    let outcome = read.outcome;
-    let found = read.plan;
-    match outcome {
-        Outcome::Faulty(f) => Answer::Refused(Refusal::Plan(f)),
-        Outcome::Sound => trace_plan(found, labels, out),
-    }
+    let found = plan::read(plan)?;
+    trace_plan(found, labels, out)
 }

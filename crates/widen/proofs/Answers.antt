@@ -16,8 +16,7 @@ use Rattle.model.specs.Convert.{with_form, widened, CertificateCarried}
 use Rattle.model.proofs.Calls.{room-short, room_enough}
 use Rattle.theory.proofs.Writings.{passed}
 use Rattle.theory.proofs.Converted.{certificate-carried}
-use Rattle.refusals.specs.declared.Answer.{Answer}
-use Rattle.refusals.specs.Told.{Told}
+use Rattle.refusals.specs.Told.{Answer, Told}
 use Rattle.refusals.proofs.Told.{told_as, told-bytes}
 use Rattle.widen.specs.Promise.{Widens}
 

@@ -7,7 +7,8 @@ use Prim.Native.Nat.{ℕ, ◌+◌, ◌*◌, ◌≤◌}
 use native.Mathlib.Omega.{arith}
 use borrow.Author.Tests.{eqb-true}
 use lib.Dec.{eqb}
-use lib.ListN.{length, take, length-append}
+use Rattle.std.proofs.lemmas.List.{length-take-le}
+use lib.ListN.{length, take, drop, length-append}
 use lib.Seq.{take_at}
 use Rattle.model.specs.Limits.{certificate_room}
 use Rattle.model.specs.Edition.{Edition, first_edition, long_reads}
@@ -101,7 +102,7 @@ module _ (bs : List ℕ) (h : AreBytes bs) (parts : Parts) (is : IsRead first_ed
   pub widened-room : size long_reads ≤ certificate_room
   widened-room =
       let w = placed first_edition bs c is.read in
-      omega (arith, is.place, by (eqb parts.q 0), w.few, w.few_steps, items-length (step_in first_edition bs) parts.from (step_width first_edition) parts.steps)
+      omega (arith, is.place, by (eqb parts.fraction.q 0), w.few, w.few_steps, items-length (step_in first_edition bs) parts.from (step_width first_edition) parts.steps)
     where
       by : (b : Bool) → cond b 0 cycle_size ≤ cycle_size
       by true = omega arith
@@ -126,3 +127,8 @@ module _ (bs : List ℕ) (h : AreBytes bs) (parts : Parts) (is : IsRead first_ed
       ∙ overwrite-then m 0 (front_bytes c ++ steps long_reads) end_bytes end
       (omega (arith, length-append (front_bytes c) (steps long_reads), front-place, long)) (omega (arith, widened-room))
       ∙ ap (overwrite m 0) (sym (in_edition long_reads))
+
+-- a first part that was copied
+pub copied : (m bs now : List ℕ) (n : ℕ) → n ≤ length bs → now ≡ take n bs → now ++ drop n m ≡ overwrite m 0 (part bs 0 n)
+unfolding overwrite
+copied m bs now n fits is = (λ i. is i ++ drop n m) ∙ ap (λ (k : ℕ). take n bs ++ drop k m) (omega (arith, length-take-le n bs fits))

@@ -11,9 +11,9 @@ ghost use Rattle.words.specs.Packed.{unpacked};
 ghost use Rattle.certificate.specs.View.{step_size, step_in, steps_in, certificate_of, IsRead};
 ghost use Rattle.widen.specs.Promise.{Widens};
 
-use certificate::{Form, Parts};
+use certificate::Parts;
 use node::{Edition, Node};
-use refusals::{Answer, Refusal};
+use refusals::Refusal;
 
 // The bytes of a step of the first edition, with its command.
 const FIRST_STEP_SIZE: usize = 2 + Node::MAX_TASKS;
@@ -23,11 +23,11 @@ fn masks_at(s: &[u8], at: usize) -> u64
     requires { at + step_width first_edition ≤ length s.now }
     ensures { unpacked result ≡ masks_at first_edition (drop at s.now) }
 {
-    let a = words::byte(s, at + 2) as u64;
-    let b = words::byte(s, at + 3) as u64;
-    let c = words::byte(s, at + 4) as u64;
-    let d = words::byte(s, at + 5) as u64;
-    a * 281474976710656 + b * 4294967296 + c * 65536 + d
+    let mut masks = 0;
+    for mask in &s[at + 2..at + FIRST_STEP_SIZE] {
+        masks = masks * 65536 + u64::from(*mask);
+    }
+    masks
 }
 
 // Writes the step whose command stands at `from`.
@@ -46,15 +46,13 @@ fn widen_steps(s: &[u8], from: usize, out: &mut [u8], at: usize, n: usize)
     requires n_in_bounds_2 { at + step_size * n ≤ length out.old }
     ensures { out.new ≡ overwrite out.old at (flat_map (step_bytes long_reads) (steps_in first_edition s.now from n)) }
 {
-    let mut i = 0;
-    while i < n {
+    for i in 0..n {
         widen_step(
             s,
             from + FIRST_STEP_SIZE * i,
             out,
             at + certificate::STEP_SIZE * i,
         );
-        i += 1;
     }
 }
 
@@ -67,7 +65,7 @@ fn write(s: &[u8], parts: Parts, out: &mut [u8]) -> usize
 {
     let from = parts.from;
     let n = parts.steps;
-    words::copy(s, 0, out, 0, from);
+    out[..from].copy_from_slice(&s[..from]);
     widen_steps(s, from, out, from, n);
     let end = from + certificate::STEP_SIZE * n;
     certificate_bytes::write_end(out, end);
@@ -75,15 +73,14 @@ fn write(s: &[u8], parts: Parts, out: &mut [u8]) -> usize
 }
 
 // Writes a certificate of the first edition in the long-read edition, for all bytes.
-pub fn widen(certificate: &[u8], out: &mut [u8]) -> Answer
+pub fn widen(certificate: &[u8], out: &mut [u8]) -> Result<usize, Refusal>
     ensures { Widens certificate.now out.old out.new result }
 {
     if out.len() < Node::CERTIFICATE_ROOM {
-        return Answer::Refused(Refusal::ShortMemory);
+        return Err(Refusal::ShortMemory);
     }
-    let form = certificate::read_in(Edition::first(), certificate);
-    match form {
-        Form::Fault => Answer::Refused(Refusal::BadForm),
-        Form::Read(parts) => Answer::Written(write(certificate, parts, out)),
-    }
+    let Some(parts) = certificate::read_in(Edition::first(), certificate) else {
+        return Err(Refusal::BadForm);
+    };
+    Ok(write(certificate, parts, out))
 }

@@ -5,6 +5,7 @@ pub mod Memory
 pub mod Numbers
 pub mod Packed
 pub mod Signed
+pub mod Std
 pub mod Words
 pub mod Tables
 pub mod Put

@@ -9,7 +9,17 @@ pub fn byte(s: &[u8], at: usize) -> u32
     requires { at < length s.now }
     ensures { (result ≡ get_or s.now at 0) × (result < 256) }
 {
-    s[at] as u32
+    u32::from(s[at])
+}
+
+// The N bytes from a place on.
+fn chunk<const N: usize>(s: &[u8], at: usize) -> [u8; N]
+    requires { at + N ≤ length s.now }
+    ensures { result ≡ part s.now at N }
+{
+    let mut bytes = [0; N];
+    bytes.copy_from_slice(&s[at..at + N]);
+    bytes
 }
 
 // The number of two bytes.
@@ -17,21 +27,15 @@ pub fn read_u16(s: &[u8], at: usize) -> u16
     requires { at + 2 ≤ length s.now }
     ensures { result ≡ number (part s.now at 2) }
 {
-    let high = byte(s, at);
-    let low = byte(s, at + 1);
-    (high * 256 + low) as u16
+    u16::from_be_bytes(chunk(s, at))
 }
 
-// The number of four bytes, as a sum over them: two such reads compile to one load.
+// The number of four bytes.
 pub fn read_u32(s: &[u8], at: usize) -> u32
     requires { at + 4 ≤ length s.now }
     ensures { result ≡ number (part s.now at 4) }
 {
-    let a = byte(s, at);
-    let b = byte(s, at + 1);
-    let c = byte(s, at + 2);
-    let d = byte(s, at + 3);
-    a * 16777216 + b * 65536 + c * 256 + d
+    u32::from_be_bytes(chunk(s, at))
 }
 
 // The number of eight bytes.
@@ -39,9 +43,7 @@ pub fn read_u64(s: &[u8], at: usize) -> u64
     requires { at + 8 ≤ length s.now }
     ensures { result ≡ number (part s.now at 8) }
 {
-    let high = read_u32(s, at) as u64;
-    let low = read_u32(s, at + 4) as u64;
-    high * 4294967296 + low
+    u64::from_be_bytes(chunk(s, at))
 }
 
 // The signed number of eight bytes.
@@ -49,12 +51,7 @@ pub fn read_i64(s: &[u8], at: usize) -> i64
     requires { at + 8 ≤ length s.now }
     ensures { result ≡ signed (number (part s.now at 8)) }
 {
-    let n = read_u64(s, at);
-    if n < 9223372036854775808 {
-        n as i64
-    } else {
-        -1 - ((18446744073709551615 - n) as i64)
-    }
+    read_u64(s, at).cast_signed()
 }
 
 // Writes v as two bytes.
@@ -62,10 +59,7 @@ pub fn write_u16(s: &mut [u8], at: usize, v: u16)
     requires { at + 2 ≤ length s.old }
     ensures { s.new ≡ overwrite s.old at (bytes 2 v) }
 {
-    let high = (v / 256 % 256) as u8;
-    let low = (v % 256) as u8;
-    s[at] = high;
-    s[at + 1] = low;
+    s[at..at + 2].copy_from_slice(&v.to_be_bytes());
 }
 
 // Writes v as four bytes.
@@ -73,10 +67,7 @@ pub fn write_u32(s: &mut [u8], at: usize, v: u32)
     requires { at + 4 ≤ length s.old }
     ensures { s.new ≡ overwrite s.old at (bytes 4 v) }
 {
-    let high = (v / 65536 % 65536) as u16;
-    let low = (v % 65536) as u16;
-    write_u16(s, at, high);
-    write_u16(s, at + 2, low);
+    s[at..at + 4].copy_from_slice(&v.to_be_bytes());
 }
 
 // Writes v as eight bytes.
@@ -84,10 +75,7 @@ pub fn write_u64(s: &mut [u8], at: usize, v: u64)
     requires { at + 8 ≤ length s.old }
     ensures { s.new ≡ overwrite s.old at (bytes 8 v) }
 {
-    let high = (v / 4294967296 % 4294967296) as u32;
-    let low = (v % 4294967296) as u32;
-    write_u32(s, at, high);
-    write_u32(s, at + 4, low);
+    s[at..at + 8].copy_from_slice(&v.to_be_bytes());
 }
 
 // Writes v as eight bytes, in two's complement.
@@ -95,18 +83,7 @@ pub fn write_i64(s: &mut [u8], at: usize, v: i64)
     requires { at + 8 ≤ length s.old }
     ensures { s.new ≡ overwrite s.old at (bytes 8 (complement v)) }
 {
-    write_u64(s, at, unsigned(v));
-}
-
-// The two's complement of v.
-fn unsigned(v: i64) -> u64
-    ensures { result ≡ complement v }
-{
-    if v < 0 {
-        18446744073709551615 - ((-1 - v) as u64)
-    } else {
-        v as u64
-    }
+    write_u64(s, at, v.cast_unsigned());
 }
 
 // Writes b, n times.
@@ -114,11 +91,7 @@ pub fn fill(s: &mut [u8], at: usize, n: usize, b: u8)
     requires { at + n ≤ length s.old }
     ensures { s.new ≡ overwrite s.old at (replicate n b) }
 {
-    let mut filled = 0;
-    while filled < n {
-        s[at + filled] = b;
-        filled += 1;
-    }
+    s[at..at + n].fill(b);
 }
 
 // Copies n bytes of src into dst.
@@ -127,9 +100,5 @@ pub fn copy(src: &[u8], from: usize, dst: &mut [u8], at: usize, n: usize)
     requires n_in_bounds_2 { at + n ≤ length dst.old }
     ensures { dst.new ≡ overwrite dst.old at (part src.now from n) }
 {
-    let mut copied = 0;
-    while copied < n {
-        dst[at + copied] = src[from + copied];
-        copied += 1;
-    }
+    dst[at..at + n].copy_from_slice(&src[from..from + n]);
 }

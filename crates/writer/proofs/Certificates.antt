@@ -31,7 +31,7 @@ use Rattle.distances.specs.Distances.{SearchIn}
 use Rattle.circuit.specs.Circuit.{Turns, Turning}
 use Rattle.circuit.proofs.Steps.{steps-length}
 use Rattle.solution.specs.declared.Solution.{Solution}
-use Rattle.solution.specs.Solution.{prices_of, Tight, Solving}
+use Rattle.solution.specs.Solution.{claim_of, Tight, Solving}
 use Rattle.writer.specs.Writer.{distances_in, WritesCycle, Written}
 use Rattle.writer.proofs.Bytes.{potentials_end, cycle_end, fronted, bare-length, bare-written, full_length, full_written}
 
@@ -73,25 +73,25 @@ module _ {P : Plan} {r : Rules} {next m : List ℕ} {n : ℕ} {s : Solution} (h 
   sized : length (distances_in m n) ≡ length (nodes P)
   sized = count ∙ sym nodes-count
 
-  search : SearchIn P (prices_of s (length (nodes P))) m
-  search = subst (λ (k : ℕ). SearchIn P (prices_of s k) m) (sym nodes-count) h.search
+  search : SearchIn P (claim_of s (length (nodes P))) m
+  search = subst (λ (k : ℕ). SearchIn P (claim_of s k) m) (sym nodes-count) h.search
 
   quiet : Quiet (length (nodes P)) (state_in m)
   quiet = subst (λ (k : ℕ). Quiet k (state_in m)) (sym nodes-count) h.quiet
 
   -- the distances are the smallest costs
-  smallest : AllSmallest P s.p s.q (distances_in m n)
-  smallest = subst (λ (k : ℕ). AllSmallest P s.p s.q (distances_in m k)) nodes-count (settled_smallest P sd fits search quiet)
+  smallest : AllSmallest P s.fraction.p s.fraction.q (distances_in m n)
+  smallest = subst (λ (k : ℕ). AllSmallest P s.fraction.p s.fraction.q (distances_in m k)) nodes-count (settled_smallest P sd fits search quiet)
 
   -- all are known, so they are what the passes find
-  passed : PassesTo P s.p s.q (beginning (length (nodes P))) (map some (distances_in m n)) s.passes
+  passed : PassesTo P s.fraction.p s.fraction.q (beginning (length (nodes P))) (map some (distances_in m n)) s.passes
   passed =
-      subst₂ (λ (k : ℕ) ds. PassesTo P s.p s.q (beginning k) ds s.passes) (sym nodes-count)
+      subst₂ (λ (k : ℕ) ds. PassesTo P s.fraction.p s.fraction.q (beginning k) ds s.passes) (sym nodes-count)
       (told-all n (state_in m) (λ v l. settled_known P sd fits search quiet v (omega (arith, l, nodes-count)))) h.passed
 
   -- after the head and the potentials, the end for q = 0
-  pub written_bare : s.q ≡ 0 → {before after : List ℕ} → certificate_room ≤ length before →
-      after ≡ overwrite (fronted s.p s.q n (distances_in m n) before) (potentials_end n) end_bytes →
+  pub written_bare : s.fraction.q ≡ 0 → {before after : List ℕ} → certificate_room ≤ length before →
+      after ≡ overwrite (fronted s.fraction.p s.fraction.q n (distances_in m n) before) (potentials_end n) end_bytes →
       Written P s.passes before after (potentials_end n + 1)
   written_bare none {before} room is = record {
     certificate = bare;
@@ -101,9 +101,9 @@ module _ {P : Plan} {r : Rules} {next m : List ℕ} {n : ℕ} {s : Solution} (h 
   }
     where
       bare : Certificate
-      bare = record { p = s.p; q = s.q; potentials = distances_in m n; node = 0; steps = [] }
+      bare = record { p = s.fraction.p; q = s.fraction.q; potentials = distances_in m n; node = 0; steps = [] }
 
-  module _ (positive : 0 < s.q) where
+  module _ (positive : 0 < s.fraction.q) where
     pub steps-few : s.steps ≤ n
     steps-few = (h.cycle positive).few
 
@@ -127,7 +127,7 @@ module _ {P : Plan} {r : Rules} {next m : List ℕ} {n : ℕ} {s : Solution} (h 
 
     -- and for q > 0 the cycle and the end
     pub written_full : {before middle after : List ℕ} → certificate_room ≤ length before →
-        WritesCycle P m s.steps (h.cycle positive).node (fronted s.p s.q n (distances_in m n) before) (potentials_end n) middle →
+        WritesCycle P m s.steps (h.cycle positive).node (fronted s.fraction.p s.fraction.q n (distances_in m n) before) (potentials_end n) middle →
         after ≡ overwrite middle (cycle_end n s.steps) end_bytes →
         Written P s.passes before after (cycle_end n s.steps + 1)
     written_full {before} room w is = record {
@@ -135,18 +135,18 @@ module _ {P : Plan} {r : Rules} {next m : List ℕ} {n : ℕ} {s : Solution} (h 
       solved =
           solved-cycle P sd fits h.fraction sized smallest passed positive w.along (omega (arith, t.below, nodes-count))
           (omega (arith, steps-length m s.steps, steps-few, count-few)) (omega (arith, same.1, t.some))
-          (ap (λ (x : ℕ). s.p * x) same.1 ∙ t.exact ∙ ap (λ (x : ℕ). s.q * x) (sym same.0));
+          (ap (λ (x : ℕ). s.fraction.p * x) same.1 ∙ t.exact ∙ ap (λ (x : ℕ). s.fraction.q * x) (sym same.0));
       bytes =
           is ∙ ap (λ x. overwrite x (cycle_end n s.steps) end_bytes) w.bytes
           ∙ full_written full count positive w.edges refl long before (omega (arith, room, steps-few, count-few));
       size = sym (full_length full count positive w.edges refl long);
     }
       where
-        t : Tight P n m s.p s.q s.steps
+        t : Tight P n m s.fraction.p s.fraction.q s.steps
         t = h.cycle positive
 
         full : Certificate
-        full = record { p = s.p; q = s.q; potentials = distances_in m n; node = t.node; steps = map step_of w.edges }
+        full = record { p = s.fraction.p; q = s.fraction.q; potentials = distances_in m n; node = t.node; steps = map step_of w.edges }
 
         same : (kept w.edges ≡ kept t.edges) × (ideal w.edges ≡ ideal t.edges)
         same = along-same w.along t.along

@@ -7,7 +7,7 @@ use native.Mathlib.Omega.{arith}
 use Rattle.model.specs.Text.{refused_line}
 use Rattle.words.proofs.Put.{put_as}
 use Rattle.text.proofs.Decimal.{refused-most}
-use Rattle.refusals.specs.declared.Answer.{Answer}
+use Rattle.refusals.specs.Told.{Answer}
 use Rattle.answer_text.specs.Finish.{Finishes}
 use Rattle.answer_text.proofs.finish.Goals as goal
 
@@ -18,9 +18,9 @@ finishes-as m l n e f = subst (λ (r : Answer). Finishes r m l n) e f
 pub put_refusal-requires : goal.put_refusal-requires
 put_refusal-requires c = omega (arith, refused-most c.number.result (omega arith))
 
-pub returns-in-Refused : goal.returns-in-Refused
-returns-in-Refused c =
-    finishes-as _ _ _ (sym c.in-Refused.is) (put_as (ap refused_line c.number.ensures) c.put_refusal.ensures)
+pub returns-in-Err : goal.returns-in-Err
+returns-in-Err c =
+    finishes-as _ _ _ (sym c.in-Err.is) (put_as (ap refused_line c.number.ensures) c.put_refusal.ensures)
 
-pub returns-in-Written : goal.returns-in-Written
-returns-in-Written c = finishes-as _ _ _ (sym c.in-Written.is) (refl, refl)
+pub returns-in-Ok : goal.returns-in-Ok
+returns-in-Ok c = finishes-as _ _ _ (sym c.in-Ok.is) (refl, refl)

@@ -10,7 +10,7 @@ use Rattle.model.specs.Text.{refused_line}
 use Rattle.words.proofs.Put.{put_as}
 use Rattle.text.proofs.Decimal.{number-most, refused-most}
 use Rattle.text.proofs.Put.{put-inside}
-use Rattle.refusals.specs.declared.Answer.{Answer}
+use Rattle.refusals.specs.Told.{Answer}
 use Rattle.refusals.specs.Told.{result_by}
 use Rattle.answer_text.specs.Finish.{result_line}
 use Rattle.answer_text.proofs.put_line.Goals as goal
@@ -25,14 +25,14 @@ pub put_refusal-requires : goal.put_refusal-requires
 put_refusal-requires c = omega (arith, refused-most c.number.result (omega arith))
 
 pub put_number_line-requires : goal.put_number_line-requires
-put_number_line-requires c = omega (arith, number-most c.in-Written.n (omega arith))
+put_number_line-requires c = omega (arith, number-most c.in-Ok.n (omega arith))
 
-pub returns-in-Refused : goal.returns-in-Refused
-returns-in-Refused c =
-    let r = as_line c.in-Refused.is (ap refused_line c.number.ensures) c.put_refusal.ensures in
+pub returns-in-Err : goal.returns-in-Err
+returns-in-Err c =
+    let r = as_line c.in-Err.is (ap refused_line c.number.ensures) c.put_refusal.ensures in
     record { put = r.0; prefix_len = r.1 }
 
-pub returns-in-Written : goal.returns-in-Written
-returns-in-Written c =
-    let r = as_line c.in-Written.is refl c.put_number_line.ensures in
+pub returns-in-Ok : goal.returns-in-Ok
+returns-in-Ok c =
+    let r = as_line c.in-Ok.is refl c.put_number_line.ensures in
     record { put = r.0; prefix_len = r.1 }

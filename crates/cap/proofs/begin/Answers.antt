@@ -1,14 +1,24 @@
--- `cap::begin` meets its contract: the plan's fault, or the cap of the plan.
+-- `cap::begin` meets its contract: the plan's fault, 18, or the cap with a window of no labels.
 -- Assumes nothing.
+use mathlib.Core.Path.{sym, ◌∙◌}
+use Rattle.std.proofs.lemmas.Result.{err_from_is_err_and}
 use Rattle.plan.specs.View.{plan_of}
-use Rattle.plan.proofs.View.{read_as}
-use Rattle.cap.proofs.Answers.{begun-faulty}
+use Rattle.cap.proofs.Answers.{begun-faulty, begun_unranged, begun_kept}
 use Rattle.cap.proofs.begin.Goals as goal
 
-pub returns-in-Faulty : goal.returns-in-Faulty
-returns-in-Faulty c =
-    begun-faulty _ _ _ _ (read_as (plan_of c.read-read.result.plan) c.read-read.ensures.1 c.in-Faulty.is) _ c.refused.ensures
+pub returns-in_err-found : goal.returns-in_err-found
+returns-in_err-found c =
+    let a = c.args in
+    let p = err_from_is_err_and c.from_residual.result c.from_residual.ensures.1 in
+    rw (p.1, p.2) (begun-faulty a.plan.now a.slots a.work _ (sym c.in_err-found.ensures))
 
-pub returns-in-Sound : goal.returns-in-Sound
-returns-in-Sound c =
-    c.begin_with.ensures _ (read_as (plan_of c.read-read.result.plan) c.read-read.ensures.1 c.in-Sound.is)
+pub returns-then-not-in_range : goal.returns-then-not-in_range
+returns-then-not-in_range c =
+    let a = c.args in
+    begun_unranged a.plan.now a.slots a.work (plan_of c.in_ok-found.found) (sym c.in_ok-found.ensures) (sym c.in_range.ensures ∙ c.if-not-in_range.true)
+
+pub returns : goal.returns
+returns c =
+    let a = c.args in
+    begun_kept a.plan.now a.slots a.work (plan_of c.in_ok-found.found) (sym c.in_ok-found.ensures) c.of-cap.result c.of-cap.ensures
+    c.none-window.result c.none-window.ensures

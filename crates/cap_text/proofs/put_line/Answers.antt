@@ -4,14 +4,14 @@ use mathlib.Core.Path.{◌≡◌, refl, sym, ap, ◌∙◌}
 use mathlib.Core.List.{List}
 use Prim.Native.Nat.{ℕ}
 use native.Mathlib.Omega.{arith}
+use Rattle.std.specs.Prelude.{Ok, Some, None}
 use Rattle.io.specs.Counts.{IsPrefixLen}
 use Rattle.model.specs.Bytes.{Put}
 use Rattle.model.specs.Text.{refused_line, cap_text}
 use Rattle.words.proofs.Put.{put_as}
-use Rattle.text.proofs.Decimal.{number-most, refused-most}
+use Rattle.text.proofs.Decimal.{refused-most}
 use Rattle.text.proofs.Put.{put-inside}
-use Rattle.cap.specs.View.{answer_of}
-use Rattle.cap.specs.declared.Answer.{Answer}
+use Rattle.cap.specs.View.{Answer, answer_of}
 use Rattle.cap_text.proofs.put_line.Goals as goal
 
 -- the line of the answer that a match has told
@@ -23,23 +23,24 @@ as_line {a} {m = m} {l = l} {n = n} e f p =
 pub put_refusal-requires : goal.put_refusal-requires
 put_refusal-requires c = omega (arith, refused-most c.number.result (omega arith))
 
-pub put_number_line-requires : goal.put_number_line-requires
-put_number_line-requires c = omega (arith, number-most c.in-Over.t (omega arith))
-
-pub returns-in-Refused : goal.returns-in-Refused
+pub returns-in-Err : goal.returns-in-Err
 unfolding cap_text
-returns-in-Refused c =
-    let r = as_line c.in-Refused.is (ap refused_line c.number.ensures) c.put_refusal.ensures in
+returns-in-Err c =
+    let r = as_line c.in-Err.is (ap refused_line c.number.ensures) c.put_refusal.ensures in
     record { put = r.0; prefix_len = r.1 }
 
-pub returns-in-Over : goal.returns-in-Over
+pub returns-in-Ok-Some : goal.returns-in-Ok-Some
 unfolding cap_text
-returns-in-Over c =
-    let r = as_line c.in-Over.is refl c.put_number_line.ensures in
+returns-in-Ok-Some c =
+    let some = rw c.in-Ok-Some.is at c.in-Ok-Some.field-0-is in
+    let is : ◌≡◌ {A = Answer} c.args.answer (Ok (Some c.in-Ok-Some.t)) = c.in-Ok-Some.is ∙ ap Ok some in
+    let r = as_line is refl c.put_slot.ensures in
     record { put = r.0; prefix_len = r.1 }
 
-pub returns-in-Kept : goal.returns-in-Kept
+pub returns-in-Ok-None : goal.returns-in-Ok-None
 unfolding cap_text
-returns-in-Kept c =
-    let r = as_line c.in-Kept.is refl c.put_bytes.ensures in
+returns-in-Ok-None c =
+    let none = rw c.in-Ok-None.is at c.in-Ok-None.field-0-is in
+    let is : ◌≡◌ {A = Answer} c.args.answer (Ok None) = c.in-Ok-None.is ∙ ap Ok none in
+    let r = as_line is refl c.put_bytes.ensures in
     record { put = r.0; prefix_len = r.1 }

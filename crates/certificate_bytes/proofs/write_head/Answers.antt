@@ -8,5 +8,5 @@ use Rattle.certificate_bytes.proofs.write_head.Goals as goal
 pub returns : goal.returns
 returns c =
     c.write_u16.ensures
-    ∙ ap (λ m. overwrite m 9 (bytes 2 c.args.n)) (c.write_u32-2.ensures ∙ ap (λ m. overwrite m 5 (bytes 4 c.args.q)) c.write_u32.ensures)
-    ∙ head-written c.args.out.now c.args.p c.args.q c.args.n c.requires
+    ∙ ap (λ m. overwrite m 9 (bytes 2 c.args.n)) (c.write_u32-2.ensures ∙ ap (λ m. overwrite m 5 (bytes 4 c.args.fraction.q)) c.write_u32.ensures)
+    ∙ head-written c.args.out.now c.args.fraction.p c.args.fraction.q c.args.n c.requires

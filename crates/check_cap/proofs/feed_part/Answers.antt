@@ -8,8 +8,8 @@ use Rattle.check_cap.specs.Commands.{part_bytes}
 use Rattle.check_cap.proofs.feed_part.Goals as goal
 
 pub feed-watch-requires : goal.feed-watch-requires
-feed-watch-requires c = watching_more _ _ _ [] part_bytes _ (omega (arith, c.read_full-count.ensures, c.read_full-count.auto, c.large_buffer-labels.type_inv)) (feeds_none _ _) c.requires
+feed-watch-requires c = watching_more _ _ _ [] part_bytes _ (omega (arith, c.read_part-count.ensures, c.read_part-count.auto, c.large_buffer-labels.type_inv)) (feeds_none _ _) c.requires
 
 pub returns : goal.returns
 returns c =
-    (take c.read_full-count.result c.read_full-count.new.buf, c.read_full-count.ensures.1, omega (arith, c.read_full-count.ensures, c.read_full-count.auto, c.large_buffer-labels.type_inv), c.feed-watch.ensures)
+    (take c.read_part-count.result c.read_part-count.new.buf, c.read_part-count.ensures.prefix_len.1, omega (arith, c.read_part-count.ensures, c.read_part-count.auto, c.large_buffer-labels.type_inv), c.feed-watch.ensures)

@@ -3,8 +3,7 @@ use mathlib.Core.Path.{◌≡◌, sym, ap, ◌∙◌}
 use native.Mathlib.Omega.{arith}
 use Rattle.model.specs.Check.{CheckAnswer}
 use Rattle.model.specs.Text.{refused_line, check_text}
-use Rattle.checker.specs.declared.Answer.{Answer}
-use Rattle.checker.specs.Promise.{answer_of}
+use Rattle.checker.specs.Promise.{Answer, answer_of}
 use Rattle.text.proofs.Decimal.{refused-length, decimal-length}
 use Rattle.words.proofs.Put.{put_as}
 use Rattle.text.proofs.Put.{counted}
@@ -19,20 +18,20 @@ put_refusal-requires c =
     let n = c.number.result in
     omega (arith, c.requires, refused-length n, decimal-length 19 n (omega arith))
 
-pub returns-in-Refused : goal.returns-in-Refused
+pub returns-in-Err : goal.returns-in-Err
 unfolding check_text
-returns-in-Refused c =
+returns-in-Err c =
     let n = c.number.result in
     record {
-      put = put_as (ap refused_line c.number.ensures ∙ text_of c.in-Refused.is c.check.ensures.answer) c.put_refusal.ensures;
+      put = put_as (ap refused_line c.number.ensures ∙ text_of c.in-Err.is c.check.ensures.answer) c.put_refusal.ensures;
       prefix_len = counted _ _ (omega (arith, c.put_refusal.ensures.next, refused-length n, decimal-length 19 n (omega arith), c.requires));
       work_after = c.check.ensures.memory;
     }
 
-pub returns-in-Share : goal.returns-in-Share
-returns-in-Share c =
+pub returns-in-Ok : goal.returns-in-Ok
+returns-in-Ok c =
     record {
-      put = put_as (text_of c.in-Share.is c.check.ensures.answer) c.put_share.ensures.put;
+      put = put_as (text_of c.in-Ok.is c.check.ensures.answer) c.put_share.ensures.put;
       prefix_len = counted _ _ (omega (arith, c.put_share.ensures.upper_bound, c.requires));
       work_after = c.check.ensures.memory;
     }

@@ -2,7 +2,6 @@
 use mathlib.Core.Path.{refl, ap, ◌∙◌}
 use Prim.Native.Nat.{ℕ}
 use lib.ListN.{replicate}
-use Rattle.words.proofs.Memory.{overwrite-zeros}
 use Rattle.checker.proofs.Answers.{short, enough}
 use Rattle.checker.proofs.check.Goals as goal
 
@@ -15,4 +14,4 @@ pub returns : goal.returns
 returns c =
     let a = c.args in
     enough a.plan.now a.certificate.now a.work.now _ _ c.if-work-lt-WORK_ROOM.false c.check_bytes-answer.ensures.result_value
-    (c.fill.ensures ∙ overwrite-zeros c.check_bytes-answer.new.m ∙ ap (λ (n : ℕ). replicate n 0) c.check_bytes-answer.auto.m)
+    (c.fill.ensures.after (λ y e. e) ∙ ap (λ (n : ℕ). replicate n 0) c.check_bytes-answer.auto.m)

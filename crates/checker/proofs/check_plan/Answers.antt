@@ -1,45 +1,42 @@
 -- `checker::check_plan` meets its contract: too many nodes, or the certificate against them. Assumes nothing.
 use mathlib.Core.Path.{sym, ap, ◌∙◌}
-use native.Mathlib.Omega.{arith}
+use Prim.Native.Nat.{ℕ}
 use lib.ListN.{length}
+use Rattle.std.specs.Prelude as rust
+use Rattle.std.specs.Prelude.{Err}
+use Rattle.std.specs.Option.{ok_or}
+use Rattle.std.proofs.lemmas.Option.{same_Some}
+use Rattle.std.proofs.lemmas.Result.{err_from_is_err_and}
+use Rattle.refusals.specs.declared.Refusal.TheVariants.{TooManyNodes}
 use Rattle.model.specs.Graph.{nodes}
+use Rattle.model.specs.Options.{option_of}
 use Rattle.plan.specs.View.{plan_of}
-use Rattle.graph.proofs.Notes.{notes-long}
-use Rattle.graph.proofs.View.{planned-of}
-use Rattle.discovery.specs.Discovery.{size_of}
-use Rattle.checker.proofs.Answers.{large, small}
+use Rattle.std.specs.Result.{result_ok, result_err}
+use Rattle.checker.specs.Promise.{answer_of}
+use Rattle.checker.proofs.Answers.{large, small, planned_by}
 use Rattle.checker.proofs.check_plan.Goals as goal
-
-pub discover-requires : goal.discover-requires
-discover-requires c =
-    let p = c.args.plan in record {
-      ruled = (c.rules_of-rules.ensures.ruled, record { plan = plan_of p; planned = planned-of p c.rules_of-rules.result c.requires.1 c.rules_of-rules.ensures });
-      store_bytes_in_bounds = (omega (arith, c.requires.2), omega (arith, notes-long c.note_space-notes.ensures));
-    }
 
 pub check_certificate-requires : goal.check_certificate-requires
 check_certificate-requires c =
     let p = c.args.plan in
-    let of = planned-of p c.rules_of-rules.result c.requires.1 c.rules_of-rules.ensures in (
-      c.rules_of-rules.ensures.ruled,
-      record { plan = plan_of p; planned = of; holds = c.discover.ensures.discovers.held _ c.in-Nodes.is (plan_of p) of },
-      omega (arith, notes-long c.note_space-notes.ensures, c.discover.ensures.notes_free.long),
-    )
+    let of = planned_by c.requires.0 c.of-machine.ensures in
+    let found = c.ok_or.ensures.ok_part ∙ ap result_ok c.in_ok-n.was in
+    record { plan = plan_of p; planned = of; holds = c.discover.ensures.discovers.held c.in_ok-n.n found (plan_of p) of }
 
-pub returns-in-TooMany : goal.returns-in-TooMany
-returns-in-TooMany c =
+pub returns-in_err-n-clause-result_value : goal.returns-in_err-n-clause-result_value
+returns-in_err-n-clause-result_value c =
     let p = c.args.plan in
-    let of = planned-of p c.rules_of-rules.result c.requires.1 c.rules_of-rules.ensures in record {
-      result_value = large (plan_of p) (length (nodes (plan_of p))) c.args.s.now (sym (ap size_of c.in-TooMany.is) ∙ c.discover.ensures.discovers.answer (plan_of p) of);
-      only = c.discover.ensures.discovers.only;
-    }
+    let of = planned_by c.requires.0 c.of-machine.ensures in
+    let told = err_from_is_err_and c.from_residual.result c.from_residual.ensures.1 in
+    let missing = c.ok_or.ensures.ok_part ∙ ap result_ok c.in_err-n.was in
+    let many = same_Some _ _ (ap result_err (sym c.in_err-n.was ∙ c.ok_or.ensures.value ∙ ap (λ (o : rust.Option ℕ). ok_or o TooManyNodes) missing)) in
+    ap answer_of (told.1 ∙ ap Err (told.2 ∙ many))
+    ∙ large (plan_of p) (length (nodes (plan_of p))) c.args.s.now (sym (ap option_of missing) ∙ c.discover.ensures.discovers.answer (plan_of p) of)
 
-pub returns-in-Nodes : goal.returns-in-Nodes
-returns-in-Nodes c =
+pub returns-clause-result_value : goal.returns-clause-result_value
+returns-clause-result_value c =
     let p = c.args.plan in
-    let of = planned-of p c.rules_of-rules.result c.requires.1 c.rules_of-rules.ensures in
-    let count = c.in-Nodes.is in record {
-      result_value = c.check_certificate.ensures.result_value (plan_of p) of (c.discover.ensures.discovers.held _ count (plan_of p) of)
-          ∙ small (plan_of p) (length (nodes (plan_of p))) _ c.args.s.now (sym (ap size_of count) ∙ c.discover.ensures.discovers.answer (plan_of p) of);
-      only = c.discover.ensures.discovers.only;
-    }
+    let of = planned_by c.requires.0 c.of-machine.ensures in
+    let found = c.ok_or.ensures.ok_part ∙ ap result_ok c.in_ok-n.was in
+    c.check_certificate.ensures.result_value (plan_of p) of (c.discover.ensures.discovers.held c.in_ok-n.n found (plan_of p) of)
+    ∙ small (plan_of p) (length (nodes (plan_of p))) _ c.args.s.now (sym (ap option_of found) ∙ c.discover.ensures.discovers.answer (plan_of p) of)

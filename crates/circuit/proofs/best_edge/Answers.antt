@@ -8,44 +8,39 @@ use Rattle.circuit.proofs.best_edge.Goals as goal
 
 pub reach-noted-requires : goal.reach-noted-requires
 reach-noted-requires c =
-    let t = c.requires.1.linked in
-    (c.requires.0, linked-cells t c.node_at-node.ensures, linked-taken t c.node_at-node.ensures, c.requires.2)
+    let t = c.requires.linked in (linked-cells t c.node_at-node.ensures, linked-taken t c.node_at-node.ensures)
 
 pub best_score-ideal-requires : goal.best_score-ideal-requires
 best_score-ideal-requires c =
-    let b = linked-noted c.requires.1.linked c.node_at-node.ensures c.requires.0 c.reach-noted.ensures c.node_at-target.ensures in
-    (c.reach-noted.ensures.readable.room, b.low)
+    (linked-noted c.requires.linked c.node_at-node.ensures c.args.machine.now.ruled c.reach-noted.ensures c.node_at-target.ensures).low
 
 pub overflow_sub-ideal : goal.overflow_sub-ideal
 overflow_sub-ideal c =
-    let b = linked-noted c.requires.1.linked c.node_at-node.ensures c.requires.0 c.reach-noted.ensures c.node_at-target.ensures in
+    let b = linked-noted c.requires.linked c.node_at-node.ensures c.args.machine.now.ruled c.reach-noted.ensures c.node_at-target.ensures in
     omega (arith, c.best_score-ideal.ensures c.reach-noted.result.count, b.ideal)
 
 pub best_masks-masks-requires : goal.best_masks-masks-requires
 best_masks-masks-requires c =
-    let planned = c.requires.1.linked.planned in
-    let ruled = c.requires.0 in
-    let b = linked-noted c.requires.1.linked c.node_at-node.ensures ruled c.reach-noted.ensures c.node_at-target.ensures in (
-      c.reach-noted.ensures.readable.room,
+    let planned = c.requires.linked.planned in
+    let ruled = c.args.machine.now.ruled in
+    let b = linked-noted c.requires.linked c.node_at-node.ensures ruled c.reach-noted.ensures c.node_at-target.ensures in (
       omega (arith, ruled.size, ap length planned.for.tasks, (sound-plan _ planned.sound).some_task),
       omega (arith, ruled.size, ruled.tasks.count),
-      subst (λ (k : ℕ). k < field_base ^ c.args.rules.count) (sym (b.masks refl)) (packed-low planned ruled b.best),
+      subst (λ (k : ℕ). k < field_base ^ c.args.machine.now.rules.tasks.count) (sym (b.masks refl)) (packed-low planned ruled b.best),
     )
 
 pub returns : goal.returns
-returns c =
-    let tasks = c.args.rules.count in record {
-      stands_for = λ P next n e t.
-          let b = linked-noted t c.node_at-node.ensures c.requires.0 c.reach-noted.ensures c.node_at-target.ensures in
-          record {
-            edge = b.edge;
-            best = b.best;
-            label = b.label;
-            kept = b.kept;
-            ideal = omega (arith, c.best_score-ideal.ensures c.reach-noted.result.count, b.ideal);
-            masks =
-                packed-padded t.planned c.requires.0 b.best
-                ∙ ap unpacked (ap (λ (k : ℕ). k * field_base ^ (max_tasks - tasks)) (sym (b.masks refl)) ∙ sym c.best_masks-masks.ensures);
-          };
-      notes_free = c.reach-noted.ensures.only;
+returns c P next n e t =
+    let tasks = c.args.machine.now.rules.tasks.count in
+    let ruled = c.args.machine.now.ruled in
+    let b = linked-noted t c.node_at-node.ensures ruled c.reach-noted.ensures c.node_at-target.ensures in
+    record {
+      edge = b.edge;
+      best = b.best;
+      label = b.label;
+      kept = b.kept ∙ sym c.from.ensures;
+      ideal = omega (arith, c.best_score-ideal.ensures c.reach-noted.result.count, b.ideal);
+      masks =
+          packed-padded t.planned ruled b.best
+          ∙ ap unpacked (ap (λ (k : ℕ). k * field_base ^ (max_tasks - tasks)) (sym (b.masks refl)) ∙ sym c.best_masks-masks.ensures);
     }

@@ -8,15 +8,12 @@ use Rattle.circuit.proofs.step_edge.Goals as goal
 
 pub best_edge-requires : goal.best_edge-requires
 best_edge-requires c =
-    let g = c.requires.1 in
-    let some = turns-linked g.turns c.requires.2 c.step_at-step.ensures c.next_node-to.ensures in
-    (c.requires.0, record { plan = g.plan; next = g.next; count = g.count; edge = some.0; linked = some.1 }, c.requires.3)
+    let g = c.requires.0 in
+    let some = turns-linked g.turns c.requires.1 c.step_at-step.ensures c.next_node-to.ensures in
+    record { plan = g.plan; next = g.next; count = g.count; edge = some.0; linked = some.1 }
 
 pub returns : goal.returns
-returns c = record {
-  stands_for = λ P next n v es t.
-      let some = turns-linked t c.requires.2 c.step_at-step.ensures c.next_node-to.ensures in
-      subst₂ (λ (s : Taken) (x : ℕ). StandsFor P s.node s.label x c.best_edge.result) c.step_at-step.ensures c.next_node-to.ensures
-      (c.best_edge.ensures.stands_for P next n some.0 some.1);
-  notes_free = c.best_edge.ensures.notes_free;
-}
+returns c P next n v es t =
+    let some = turns-linked t c.requires.1 c.step_at-step.ensures c.next_node-to.ensures in
+    subst₂ (λ (s : Taken) (x : ℕ). StandsFor P s.node s.label x c.best_edge.result) c.step_at-step.ensures c.next_node-to.ensures
+    (c.best_edge.ensures P next n some.0 some.1)

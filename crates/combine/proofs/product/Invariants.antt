@@ -7,7 +7,7 @@ use Rattle.combine.proofs.product.Given as goal
 
 abbrev pub invariant-loop-k : goal.invariant-loop-k
 invariant-loop-k l =
-    Reached l.first l.second l.count l.order l.numbers l.next l.states l.k
+    Reached l.first l.second l.tasks.count l.order l.numbers l.next l.states l.k
 
 abbrev pub decreases-loop-k : goal.decreases-loop-k
 decreases-loop-k l =

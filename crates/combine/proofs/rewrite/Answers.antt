@@ -5,39 +5,34 @@ use native.Mathlib.Omega.{arith}
 use Rattle.plan.specs.View.{plan_of}
 use Rattle.plan.proofs.View.{read_as}
 use Rattle.policy.proofs.Plans.{states_fit_lem}
-use Rattle.refusals.proofs.Told.{told_by, told-refusal}
+use Rattle.refusals.proofs.Told.{told_by, told_up, told-refusal}
 use Rattle.combine.proofs.Answers.{combines, short, by_first, by_both}
 use Rattle.combine.proofs.rewrite.Goals as goal
 
 pub returns-then-out-lt-PLAN_ROOM : goal.returns-then-out-lt-PLAN_ROOM
 returns-then-out-lt-PLAN_ROOM c = combines _ _ _ _ _ (told-refusal _ _ _ _ (short _ _ _ c.if-out-lt-PLAN_ROOM.true))
 
-pub returns-in-Faulty : goal.returns-in-Faulty
-returns-in-Faulty c =
-    combines _ _ _ _ _ (told-refusal _ _ _ _ (by_first _ _ _ _ c.if-out-lt-PLAN_ROOM.false (read_as (plan_of c.read-read.result.plan) c.read-read.ensures.1 c.in-Faulty.is)))
+pub returns-in_err-one : goal.returns-in_err-one
+returns-in_err-one c =
+    combines _ _ _ _ _
+    (told_up _ _ _ c.from_residual.result _ c.from_residual.ensures.1 (by_first _ _ _ _ c.if-out-lt-PLAN_ROOM.false (read_as c.read.ensures c.in_err-one.was)))
+
+pub returns-in_err-two : goal.returns-in_err-two
+returns-in_err-two c =
+    combines _ _ _ _ _
+    (told_up _ _ _ c.from_residual-in_err-two.result _ c.from_residual-in_err-two.ensures.1
+    (by_both _ _ _ (plan_of c.in_ok-one.one) _ c.if-out-lt-PLAN_ROOM.false (read_as c.read.ensures c.in_ok-one.was) (read_as c.read-2.ensures c.in_err-two.was)))
 
 pub combine_in-requires : goal.combine_in-requires
-combine_in-requires c =
-    let P = plan_of c.read-read.result.plan in
-    let Q = plan_of c.read-other.result.plan in (
-      c.read-read.ensures.0,
-      c.read-other.ensures.0,
-      states_fit_lem P (record { bytes = _; read = read_as P c.read-read.ensures.1 c.in_default.is }) _ refl,
-      states_fit_lem Q (record { bytes = _; read = read_as Q c.read-other.ensures.1 c.in-Sound.is }) _ refl,
-      omega arith,
-    )
+combine_in-requires c = (
+  states_fit_lem (plan_of c.in_ok-one.one) (record { bytes = _; read = read_as c.read.ensures c.in_ok-one.was }) _ refl,
+  states_fit_lem (plan_of c.in_ok-two.two) (record { bytes = _; read = read_as c.read-2.ensures c.in_ok-two.was }) _ refl,
+  omega arith,
+)
 
-pub returns-in-Faulty-verdict : goal.returns-in-Faulty-verdict
-returns-in-Faulty-verdict c =
-    let P = plan_of c.read-read.result.plan in
-    combines _ _ _ _ _
-    (told-refusal _ _ _ _
-    (by_both _ _ _ P _ c.if-out-lt-PLAN_ROOM.false (read_as P c.read-read.ensures.1 c.in_default.is) (read_as (plan_of c.read-other.result.plan) c.read-other.ensures.1 c.in-Faulty-verdict.is)))
-
-pub returns-in-Sound : goal.returns-in-Sound
-returns-in-Sound c =
-    let P = plan_of c.read-read.result.plan in
+pub returns : goal.returns
+returns c =
     combines _ _ _ _ _
     (told_by
-    (by_both _ _ _ P _ c.if-out-lt-PLAN_ROOM.false (read_as P c.read-read.ensures.1 c.in_default.is) (read_as (plan_of c.read-other.result.plan) c.read-other.ensures.1 c.in-Sound.is))
+    (by_both _ _ _ (plan_of c.in_ok-one.one) _ c.if-out-lt-PLAN_ROOM.false (read_as c.read.ensures c.in_ok-one.was) (read_as c.read-2.ensures c.in_ok-two.was))
     c.combine_in.ensures)

@@ -1,34 +1,26 @@
--- `combine::same_tasks` meets its contract: the tasks before i are the same.
+-- `combine::same_tasks` meets its contract: `==` compares tasks as the definition does.
 -- Assumes nothing.
-use mathlib.Core.Path.{◌≡◌, sym, subst, ◌∙◌}
-use mathlib.Core.List.{List}
-use Prim.Native.Nat.{ℕ, ◌+◌, ◌<◌}
-use native.Mathlib.Decide.{ℕ_discrete}
-use native.Mathlib.Omega.{arith}
-use Rattle.plan.specs.declared.Task.{Task}
-use Rattle.combine.proofs.Tasks.{other-count, other-task, all_same}
-use Rattle.combine.proofs.same_tasks.Invariants.{SameAt}
+use mathlib.Core.Path.{◌≡◌, refl, ap₂, ◌∙◌}
+use mathlib.Core.Bool.{Bool, ◌&&◌}
+use mathlib.Core.List.{List, [], ◌∷◌, map}
+use lib.Pointwise.{pointwise}
+use borrow.Author.Rules.{rules}
+use Rattle.model.specs.Lists.{same_by}
+use Rattle.model.specs.Combine.{same_task}
+use Rattle.plan.specs.declared.tasks.Task.{Task}
+use Rattle.plan.specs.View.{task_view}
+use Rattle.plan.specs.contracts.tasks.TaskPartialEq.TheImpl.{eq-value}
 use Rattle.combine.proofs.same_tasks.Goals as goal
 
-more : (a b : List Task) (i : ℕ) → ((j : ℕ) → j < i → SameAt a b j) → SameAt a b i → (j : ℕ) → j < i + 1 → Dec (j ≡ i) → SameAt a b j
-more a b i below at j h (yes e) = subst (SameAt a b) (sym e) at
-more a b i below at j h (no n) = below j (omega arith)
+same_one : (a b : Task) → eq-value.it a b ≡ same_task (task_view a) (task_view b)
+same_one a b = search rules
 
-pub returns-then-count-second : goal.returns-then-count-second
-returns-then-count-second c = other-count c.args.first c.args.second c.requires.0 c.requires.1 c.if-count-second.true
-
-pub loop-i-init : goal.loop-i-init
-loop-i-init c = (omega arith, λ j h. absurd (omega (arith, h)))
-
-pub returns-then-not-same_task : goal.returns-then-not-same_task
-returns-then-not-same_task c =
-    other-task c.args.first c.args.second c.requires.0 c.requires.1 c.if-count-second.false c.loop-i.i (omega arith) (sym c.same_task.ensures ∙ c.if-not-same_task.true)
-
-pub loop-i-preserved : goal.loop-i-preserved
-loop-i-preserved c =
-    let a = c.args in
-    (omega arith, λ j h. more a.first.tasks a.second.tasks c.loop-i.i c.loop-i.invariant.1 (sym c.same_task.ensures ∙ c.if-not-same_task.false) j h (ℕ_discrete j c.loop-i.i))
+alike : (it : Task → Task → Bool) → ((a b : Task) → it a b ≡ same_task (task_view a) (task_view b)) → (xs ys : List Task) →
+    pointwise it xs ys ≡ same_by same_task (map task_view xs) (map task_view ys)
+alike it h [] [] = refl
+alike it h [] (y ∷ ys) = refl
+alike it h (x ∷ xs) [] = refl
+alike it h (x ∷ xs) (y ∷ ys) = ap₂ ◌&&◌ (h x y) (alike it h xs ys)
 
 pub returns : goal.returns
-returns c =
-    all_same c.args.first c.args.second c.requires.0 c.requires.1 c.if-count-second.false (λ i h. c.loop-i.invariant.1 i (omega (arith, h, c.loop-i-test.false)))
+returns c = c.eq.ensures ∙ alike _ same_one c.as_slice.result.now c.as_slice-2.result.now ∙ ap₂ (same_by same_task) c.as_slice.ensures c.as_slice-2.ensures

@@ -13,5 +13,5 @@ pub returns : goal.returns
 returns c =
     let writes = c.args.writes.now in
     c.refusal_of.ensures
-    ∙ ap (λ (n : ℕ). refusal_of (write_of n (get_or writes (last_place (length writes) + 1) 0))) c.byte-byte.ensures.0
+    ∙ ap (λ (n : ℕ). refusal_of (write_of n (get_or writes (last_place (length writes) + 1) 0))) c.from-byte.ensures
     ∙ last-write writes 0 c.if-n-lt2.false

@@ -4,7 +4,7 @@ use Rattle.std.proofs.Common.{ℕ, ◌≤◌, List, length, get_or, sym, ap}
 use lib.ListN.{get_or-eq_default}
 use Rattle.model.specs.Bytes.{bytes}
 use Rattle.model.specs.Controller as model
-use Rattle.controller.specs.View.{block_of}
+use Rattle.controller.specs.Block.{block_of}
 use Rattle.controller.proofs.read.Goals as goal
 
 pub returns-then-at-ge-BYTES : goal.returns-then-at-ge-BYTES

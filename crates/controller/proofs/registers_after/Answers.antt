@@ -5,6 +5,9 @@ use Rattle.model.specs.Controller as model
 use Rattle.policy.specs.View.{tasks_in}
 use Rattle.controller.proofs.registers_after.Goals as goal
 
+pub run_writes-block-requires : goal.run_writes-block-requires
+run_writes-block-requires c = c.args.controller.now.ready
+
 pub returns : goal.returns
 returns c P part =
-    c.registers.ensures (tasks_in c.args.controller.rules) ∙ ap model.registers (c.run_writes-block.ensures.is P part)
+    c.registers.ensures (tasks_in c.args.controller.now.machine.rules) ∙ ap model.registers (c.run_writes-block.ensures.is P part)

@@ -1,18 +1,17 @@
 -- `controller::set_up` meets its contract: the plan's fault, or its part.
 -- Assumes nothing.
+use Rattle.std.proofs.Common.{sym}
+use Rattle.std.proofs.lemmas.Result.{err_from_is_err_and}
 use Rattle.plan.specs.View.{plan_of}
-use Rattle.plan.proofs.View.{read_as}
-use Rattle.controller.proofs.Parts.{part-refused, part-taken}
 use Rattle.controller.proofs.set_up.Goals as goal
 
-pub part_of-controller-requires : goal.part_of-controller-requires
-part_of-controller-requires c =
-    (c.read-read.ensures.0, record { bytes = c.args.plan.now; read = read_as _ c.read-read.ensures.1 c.in-Sound.is })
+pub returns-in_err-found : goal.returns-in_err-found
+returns-in_err-found c =
+    let p = err_from_is_err_and c.from_residual.result c.from_residual.ensures.1 in
+    rw (p.1, p.2) (sym c.in_err-found.ensures)
 
-pub returns-in-Faulty : goal.returns-in-Faulty
-returns-in-Faulty c =
-    part-refused _ _ _ (read_as (plan_of c.read-read.result.plan) c.read-read.ensures.1 c.in-Faulty.is) c.no_part-controller.ensures
+pub part_of-requires : goal.part_of-requires
+part_of-requires c = record { bytes = c.args.plan.now; read = sym c.in_ok-found.ensures }
 
-pub returns-in-Sound : goal.returns-in-Sound
-returns-in-Sound c =
-    part-taken _ _ (plan_of c.read-read.result.plan) (read_as _ c.read-read.ensures.1 c.in-Sound.is) c.part_of-controller.ensures
+pub returns : goal.returns
+returns c = (plan_of c.in_ok-found.found, sym c.in_ok-found.ensures, c.part_of.ensures)

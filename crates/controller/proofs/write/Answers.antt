@@ -5,4 +5,4 @@ use Rattle.controller.proofs.After.{step-writes}
 use Rattle.controller.proofs.write.Goals as goal
 
 pub returns : goal.returns
-returns c = step-writes c.args.controller.now (write_of c.args.byte c.args.value) c.step_part-after.result c.step_part-after.ensures
+returns c = step-writes c.args.controller.now (write_of c.args.byte c.args.value) _ _ _ c.step-told.ensures

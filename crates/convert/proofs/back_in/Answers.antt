@@ -18,7 +18,7 @@ pub write_in-requires : goal.write_in-requires
 write_in-requires c =
     let first = c.first-first.ensures in
     let locks = locks_said (edition_of c.first-first.result) (plan_of c.args.plan).tasks (sym c.says_all.ensures ∙ c.if-not-says_all.false) in
-    (inl (ap (λ (e : Edition). e.value_width) first), c.requires.0, locks, subst (λ (e : Edition). plan_room_in e ≤ length c.args.out.now) (sym first) c.requires.1)
+    (inl (ap (λ (e : Edition). e.value_width) first), locks, subst (λ (e : Edition). plan_room_in e ≤ length c.args.out.now) (sym first) c.requires)
 
 pub returns : goal.returns
 returns c =

@@ -6,25 +6,24 @@ use Rattle.model.specs.Edition.{Edition}
 use Rattle.model.specs.PlanBytes.{plan_bytes}
 use Rattle.plan.specs.View.{plan_of}
 use Rattle.plan.proofs.View.{read_as}
-use Rattle.refusals.proofs.Told.{told-refusal, told-written}
+use Rattle.refusals.proofs.Told.{told_up, told-refusal, told-written}
 use Rattle.convert.proofs.Answers.{sends_forth, forth-short, by_first}
 use Rattle.convert.proofs.forth.Goals as goal
 
 pub returns-then-out-lt-PLAN_ROOM : goal.returns-then-out-lt-PLAN_ROOM
 returns-then-out-lt-PLAN_ROOM c = sends_forth _ _ _ _ (λ i. (c.type_inv.plan i).fits) (told-refusal _ _ _ _ (forth-short _ _ c.if-out-lt-PLAN_ROOM.true))
 
-pub read_in-read-requires : goal.read_in-read-requires
-read_in-read-requires c = inl (ap (λ (e : Edition). e.value_width) c.first.ensures)
+pub read_in-requires : goal.read_in-requires
+read_in-requires c = inl (ap (λ (e : Edition). e.value_width) c.first.ensures)
 
-pub returns-in-Faulty : goal.returns-in-Faulty
-returns-in-Faulty c =
-    let read = rw c.first.ensures at c.read_in-read.ensures.1 in
+pub returns-in_err-plan : goal.returns-in_err-plan
+returns-in_err-plan c =
+    let read = rw c.first.ensures at c.read_in.ensures in
     sends_forth _ _ _ _ (λ i. (c.type_inv.plan i).fits)
-    (told-refusal _ _ _ _ (by_first _ _ _ c.if-out-lt-PLAN_ROOM.false (read_as (plan_of c.read_in-read.result.plan) read c.in-Faulty.is)))
+    (told_up _ _ _ c.from_residual.result _ c.from_residual.ensures.1 (by_first _ _ _ c.if-out-lt-PLAN_ROOM.false (read_as read c.in_err-plan.was)))
 
-pub returns-in-Sound : goal.returns-in-Sound
-returns-in-Sound c =
-    let P = plan_of c.read_in-read.result.plan in
-    let read = rw c.first.ensures at c.read_in-read.ensures.1 in
+pub returns : goal.returns
+returns c =
+    let read = rw c.first.ensures at c.read_in.ensures in
     sends_forth _ _ _ _ (λ i. (c.type_inv.plan i).fits)
-    (told-written plan_bytes _ P _ _ _ (by_first _ _ _ c.if-out-lt-PLAN_ROOM.false (read_as P read c.in-Sound.is)) c.write.ensures.value c.write.ensures.out_after)
+    (told-written plan_bytes _ (plan_of c.in_ok-plan.plan) _ _ _ (by_first _ _ _ c.if-out-lt-PLAN_ROOM.false (read_as read c.in_ok-plan.was)) c.write.ensures.value c.write.ensures.out_after)

@@ -1,6 +1,6 @@
 -- `cycle::follow` meets its contract: one step after another. Assumes nothing.
 use mathlib.Core.Path.{◌≡◌}
-use Prim.Native.Nat.{◌-◌, ◌*◌, ◌≤◌, ◌<◌}
+use Prim.Native.Nat.{◌*◌, ◌≤◌, ◌<◌}
 use lib.ListN.{drop}
 use Rattle.model.specs.Edition.{long_reads}
 use Rattle.model.specs.Check.{follow}
@@ -14,10 +14,13 @@ use Rattle.cycle.proofs.follow.Given as goal
 
 abbrev pub invariant-loop-j : goal.invariant-loop-j
 invariant-loop-j l =
-    (l.j ≤ l.parts.steps) × Cells (tasks_in l.rules) cell_count l.at.cells × (l.at.state < max_states) × (l.at.taken < mask_count)
-    × (l.kept ≤ l.j * max_value) × (l.ideal ≤ l.j * (max_tasks * max_value))
-    × (follow (plan_by l.rules l.next max_states) (drop l.j (certificate_of long_reads l.s l.parts).steps) (here (tasks_in l.rules) l.at l.kept l.ideal)
-    ≡ follow (plan_by l.rules l.next max_states) (certificate_of long_reads l.s l.parts).steps (here (tasks_in l.rules) l.initial.at l.initial.kept l.initial.ideal))
-
-abbrev pub decreases-loop-j : goal.decreases-loop-j
-decreases-loop-j l = l.parts.steps - l.j
+    let r = l.machine.rules in
+    let P = plan_by r l.machine.next max_states in
+    let ss = (certificate_of long_reads l.s l.parts).steps in record {
+      cells : Cells (tasks_in r) cell_count l.at.cells;
+      state : l.at.state < max_states;
+      taken : l.at.taken < mask_count;
+      kept : l.kept ≤ l.j * max_value;
+      ideal : l.ideal ≤ l.j * (max_tasks * max_value);
+      followed : follow P (drop l.j ss) (here (tasks_in r) l.at l.kept l.ideal) ≡ follow P ss (here (tasks_in r) l.initial.at l.initial.kept l.initial.ideal);
+    }

@@ -4,9 +4,11 @@ use mathlib.Core.List.{List}
 use Prim.Native.Nat.{ℕ, suc}
 use native.Mathlib.Numerals.{add-one}
 use native.Mathlib.Omega.{arith}
+use Rattle.std.specs.Prelude.{None, Some}
 use Rattle.words.proofs.Free.{only_refl, only_trans}
 use Rattle.model.specs.Discovery.{found}
 use Rattle.model.specs.Graph as model
+use Rattle.model.specs.Graph.{nodes}
 use Rattle.theory.proofs.Nodes.{explored}
 use Rattle.policy.specs.View.{tasks_in}
 use Rattle.discovery.specs.Discovery.{node_in, Known}
@@ -18,65 +20,68 @@ pub loop-k-init : goal.loop-k-init
 unfolding found
 loop-k-init c =
     let a = c.args in
-    let b = c.requires.2 in (
-      omega arith,
-      b.held.index.few,
-      refl,
-      refl,
-      λ P p. subst (λ (ns : List model.Node). Known (tasks_in a.rules) ns a.m.now a.m.now a.n) b.nodes
-          (known-none (tasks_in a.rules) a.m.now a.n b.held),
-      only_refl,
+    let ts = tasks_in a.machine.now.rules in
+    let b = c.requires.1 in
+    record {
+      done = omega arith;
+      few = b.held.index.few;
+      known = λ P p. subst (λ (ns : List model.Node). Known ts ns a.m.now a.m.now (Some a.n)) b.nodes (known-none ts a.m.now a.n b.held);
+      notes_free = only_refl;
+    }
+
+pub explore_node-requires-clause-node : goal.explore_node-requires-clause-node
+explore_node-requires-clause-node c =
+    let l = c.loop-k in
+    let a = c.args in
+    let m = a.machine.now in
+    let b = c.requires.0 in
+    let named = c.node_of-node.ensures ∙ ap node_in c.row.ensures in
+    let u = c.node_of-node.result in (
+      row-cells m.rules m.ruled m.next a.m.now l.m l.known l.k (omega arith) l.invariant.known u named b.plan b.planned,
+      row-state m.rules m.ruled m.next a.m.now l.m l.known l.k (omega arith) l.invariant.known u named b.plan b.planned,
+      row-taken m.rules m.ruled m.next a.m.now l.m l.known l.k (omega arith) l.invariant.known u named b.plan b.planned,
     )
 
-pub explore_node-known-requires : goal.explore_node-known-requires
-explore_node-known-requires c =
+pub explore_node-requires-clause-holding : goal.explore_node-requires-clause-holding
+explore_node-requires-clause-holding c =
     let l = c.loop-k in
-    let a = c.args in
-    let b = c.requires.1 in
-    let named = c.node_of-node.ensures ∙ ap node_in c.row-row.ensures in
-    let u = c.node_of-node.result in record {
-      ruled = (
-        c.requires.0,
-        row-cells a.rules c.requires.0 a.next.now a.m.now l.m l.known l.k l.invariant.1 (omega arith) l.invariant.4 u named b.plan b.planned,
-        row-state a.rules c.requires.0 a.next.now a.m.now l.m l.known l.k l.invariant.1 (omega arith) l.invariant.4 u named b.plan b.planned,
-        row-taken a.rules c.requires.0 a.next.now a.m.now l.m l.known l.k l.invariant.1 (omega arith) l.invariant.4 u named b.plan b.planned,
-      );
-      holding = (((l.invariant.4 b.plan b.planned).held l.invariant.1).0, omega (arith, l.invariant.2, c.requires.3));
-    }
+    let b = c.requires.0 in
+    ((l.invariant.known b.plan b.planned).held l.known refl).0
 
-pub returns-then-known-gt-MAX_ROWS : goal.returns-then-known-gt-MAX_ROWS
-returns-then-known-gt-MAX_ROWS c =
+pub returns-in_err-known-clause-known : goal.returns-in_err-known-clause-known
+returns-in_err-known-clause-known c =
+    λ P p.
     let l = c.loop-k in
     let a = c.args in
-    let after = c.explore_node-known.new.m in
+    let m = a.machine.now in
+    let after = c.explore_node.new.m in
     let then =
-    next_turn a.rules c.requires.0 a.next.now a.m.now l.m l.known l.k l.invariant.1 (omega arith) l.invariant.4
-    c.node_of-node.result (c.node_of-node.ensures ∙ ap node_in c.row-row.ensures) after c.explore_node-known.result c.explore_node-known.ensures.explored in record {
-      known = λ P p.
-          whole-many P (tasks_in a.rules) a.m.now after c.explore_node-known.result (suc l.k) (omega arith) (then P p) c.if-known-gt-MAX_ROWS.true;
-      notes_free = only_trans l.invariant.5 c.explore_node-known.ensures.notes_free;
-    }
+    next_turn m.rules m.ruled m.next a.m.now l.m l.known l.k (omega arith) l.invariant.known
+    c.node_of-node.result (c.node_of-node.ensures ∙ ap node_in c.row.ensures) after None c.in_err-known.ensures.explored in
+    subst (Known (tasks_in m.rules) (nodes P) a.m.now after) (sym c.from_residual.ensures)
+    (whole-many P (tasks_in m.rules) a.m.now after (suc l.k) (omega (arith, l.invariant.few)) (then P p))
 
 pub loop-k-preserved : goal.loop-k-preserved
 loop-k-preserved c =
     let l = c.loop-k in
     let a = c.args in
-    let after = c.explore_node-known.new.m in
+    let m = a.machine.now in
+    let b = c.requires.0 in
+    let after = c.explore_node.new.m in
+    let known = c.in_ok-known.known in
     let then =
-    next_turn a.rules c.requires.0 a.next.now a.m.now l.m l.known l.k l.invariant.1 (omega arith) l.invariant.4
-    c.node_of-node.result (c.node_of-node.ensures ∙ ap node_in c.row-row.ensures) after c.explore_node-known.result c.explore_node-known.ensures.explored in (
-      omega arith,
-      c.if-known-gt-MAX_ROWS.false,
-      c.explore_node-known.ensures.notes_free.long ∙ l.invariant.2,
-      c.explore_node-known.auto.m ∙ l.invariant.3,
-      λ P p. subst (λ (i : ℕ). Known (tasks_in a.rules) (explored P i) a.m.now after c.explore_node-known.result) (sym (add-one l.k)) (then P p),
-      only_trans l.invariant.5 c.explore_node-known.ensures.notes_free,
-    )
-
-pub returns : goal.returns
-returns c =
-    let a = c.args in
-    let l = c.loop-k in record {
-      known = λ P p. whole-end P (tasks_in a.rules) a.m.now l.m l.known l.k l.invariant.0 (l.invariant.4 P p) l.invariant.1 (omega arith);
-      notes_free = l.invariant.5;
+    next_turn m.rules m.ruled m.next a.m.now l.m l.known l.k (omega arith) l.invariant.known
+    c.node_of-node.result (c.node_of-node.ensures ∙ ap node_in c.row.ensures) after (Some known) c.in_ok-known.ensures.explored in
+    record {
+      done = omega (arith, l.invariant.few);
+      few = ((then b.plan b.planned).held known refl).0.index.few;
+      known = λ P p. subst (λ (i : ℕ). Known (tasks_in m.rules) (explored P i) a.m.now after (Some known)) (sym (add-one l.k)) (then P p);
+      notes_free = only_trans l.invariant.notes_free c.explore_node.ensures.notes_free;
     }
+
+pub returns-clause-known : goal.returns-clause-known
+returns-clause-known c =
+    λ P p.
+    let a = c.args in
+    let l = c.loop-k in
+    whole-end P (tasks_in a.machine.now.rules) a.m.now l.m l.k l.invariant.done l.known (omega arith) (l.invariant.known P p)

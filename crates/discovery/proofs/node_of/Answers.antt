@@ -10,7 +10,7 @@ use Rattle.discovery.proofs.node_of.Goals as goal
 
 pub returns : goal.returns
 returns c =
-    let row = c.args.row in
+    let row = c.args.row.now in
     let cells =
-    c.copy.ensures ∙ overwrite-all _ (part row 0 cell_count) (part_length row 0 cell_count (omega (arith, c.requires))) in
+    c.copy.ensures ∙ overwrite-all _ (part row 0 cell_count) (part_length row 0 cell_count (omega (arith, c.told-row))) in
     λ i. record { cells = cells i; taken = c.read_u16-taken.ensures i; state = get_or row state_at 0 }

@@ -1,111 +1,74 @@
 -- `distances::relax_node` meets its contract: the labels one after another. Assumes nothing.
-use mathlib.Core.Path.{◌≡◌, refl, sym, ap, ◌∙◌}
-use mathlib.Core.Bool.{true, false}
-use Prim.Native.Nat.{◌*◌, ◌%◌, ◌^◌, ◌<◌}
+use mathlib.Core.Path.{◌≡◌, refl, sym, ap, subst, ◌∙◌}
+use mathlib.Core.Bool.{Bool, true, false, true≢false}
+use mathlib.Core.List.{List}
+use Prim.Native.Nat.{ℕ, ◌^◌}
 use native.Mathlib.Omega.{arith}
-use lib.Dec.{eqb, ltb}
-use lib.ListN.{length}
-use borrow.Author.Tests.{ne_eqb}
-use Rattle.words.proofs.Free.{only_refl, only_trans}
-use Rattle.words.proofs.Memory.{part_length}
-use Rattle.store.specs.Store.{row_bytes}
 use Rattle.discovery.specs.Discovery.{node_in}
-use Rattle.discovery.proofs.Growing.{labels_shifted}
 use Rattle.links.specs.declared.Link.{Link}
-use Rattle.links.specs.Links.{unknown, waiting, state_in}
-use Rattle.distances.proofs.Rows.{numbered-kept}
+use Rattle.links.specs.declared.Mark.{Mark}
+use Rattle.links.specs.declared.Mark.TheVariants.{Unknown, Waiting, Tried}
+use Rattle.links.specs.Links.{link_in, is_known, is_waiting, state_in}
+use Rattle.distances.specs.Distances.{RelaxesNode}
 use Rattle.distances.proofs.Advances.{advance-none, advance-circuit, sought-after}
-use Rattle.distances.proofs.Taken.{taken_idle}
 use Rattle.distances.proofs.Labels.{below_none, below_more, below_all}
+use Rattle.distances.proofs.Rows.{numbered-kept}
+use Rattle.distances.proofs.Taken.{taken_idle}
+use Rattle.distances.proofs.Targets.{passed_up}
 use Rattle.distances.proofs.relax_node.Goals as goal
-use Rattle.distances.proofs.relax_node.Goals.{Else-link-ne-WAITING}
 
-pub link_to-link-requires : goal.link_to-link-requires
-link_to-link-requires c =
-    let priced = c.requires.1.sought.priced in
-    (omega (arith, c.requires.2, priced.holds.rows.index.few), priced.room)
+-- whether a node waits, by its link
+waiting-is : (m : List ℕ) (u : ℕ) {l : Link} {w b : Bool} → l ≡ link_in m u → w ≡ is_waiting l.mark → w ≡ b → (state_in m).waiting u ≡ b
+waiting-is m u e f h = ap (λ (l : Link). is_waiting l.mark) (sym e) ∙ sym f ∙ h
 
-pub returns-then-link-ne-WAITING : goal.returns-then-link-ne-WAITING
-returns-then-link-ne-WAITING c = record {
-  relaxes_node = λ P s.
-      let idle : (state_in c.args.m.now).waiting c.args.u ≡ false =
-      ap (λ (l : Link). eqb l.mark waiting) (sym c.link_to-link.ensures) ∙ ne_eqb c.link_to-link.result.mark waiting c.if-link-ne-WAITING.true in record {
-        advance = advance-none s.search;
-        taken = λ e. taken_idle s.priced c.requires.2 (λ known. s.search.done c.args.u c.requires.2 known idle);
-        tried = λ e f. idle;
-      };
-  notes_free = only_refl;
-}
+-- what waits is known
+waits-known : (k : Mark) → is_waiting k ≡ true → is_known k ≡ true
+waits-known Unknown h = absurd (true≢false (sym h))
+waits-known Waiting h = refl
+waits-known Tried h = absurd (true≢false (sym h))
 
-pub row-row-requires : goal.row-row-requires
-row-row-requires c =
-    let index = c.requires.1.sought.priced.holds.rows.index in
-    (omega (arith, c.requires.2, index.few), index.room)
-
-pub node_of-node-requires : goal.node_of-node-requires
-node_of-node-requires c =
-    let index = c.requires.1.sought.priced.holds.rows.index in
-    ap length c.row-row.ensures
-    ∙ part_length c.args.m.now (row_bytes * c.args.u) row_bytes (omega (arith, c.requires.2, index.few, index.room))
+pub returns-then-not-waits : goal.returns-then-not-waits
+returns-then-not-waits c P s =
+    let a = c.args in
+    let idle : (state_in a.m.now).waiting a.u ≡ false = waiting-is a.m.now a.u c.link_to.ensures c.waits.ensures c.if-not-waits.true in record {
+      advance = advance-none s.search;
+      taken = taken_idle s.priced c.requires.1 (λ known. s.search.done a.u c.requires.1 known idle);
+      tried = λ e. idle;
+    }
 
 pub loop-label-init : goal.loop-label-init
-loop-label-init c = (omega arith, refl, refl, λ P s. below_none s.search, only_refl)
+loop-label-init c P s = below_none s.search
 
--- the node waits, so it is known
-known : (c : Else-link-ne-WAITING) → (state_in c.args.m.now).known c.args.u ≡ true
-known c = ap (λ (l : Link). ltb unknown l.mark) (sym c.link_to-link.ensures) ∙ ap (ltb unknown) c.if-link-ne-WAITING.false
-
-pub relax_label-tried-requires : goal.relax_label-tried-requires
-relax_label-tried-requires c =
-    let seeking = c.requires.1 in
-    let b = c.loop-label.invariant.3 seeking.plan seeking.sought in
-    let few = seeking.sought.priced.holds.rows.index.few in
-    let row = c.node_of-node.ensures ∙ ap node_in c.row-row.ensures in (
-      c.requires.0,
-      record { plan = seeking.plan; sought = sought-after b.advance refl seeking.sought },
-      numbered-kept b.advance.only few (record { below = c.requires.2; row = row }),
-      (b.advance.progress refl).later.known c.args.u c.requires.2 (known (goal.at.relax_label-tried-requires c).Else-link-ne-WAITING),
-      omega (arith, c.loop-label.invariant.1, c.requires.3),
+pub relax_label-requires : goal.relax_label-requires
+relax_label-requires c =
+    let a = c.args in
+    let seeking = c.requires.0 in
+    let b = c.loop-label.invariant seeking.plan seeking.sought in
+    let known = waits-known (link_in a.m.now a.u).mark (waiting-is a.m.now a.u c.link_to.ensures c.waits.ensures c.if-not-waits.false) in (
+      record { plan = seeking.plan; sought = sought-after b.advance seeking.sought },
+      numbered-kept b.advance.only seeking.sought.priced.holds.rows.index.few (record {
+        below = c.requires.1;
+        row = c.node_of-node.ensures ∙ ap node_in c.row.ensures;
+      }),
+      b.advance.progress.later.known a.u c.requires.1 known,
     )
 
-pub returns-then-tried-ne0 : goal.returns-then-tried-ne0
-returns-then-tried-ne0 c =
-    let l = c.loop-label in record {
-      relaxes_node = λ P s.
-          let b = l.invariant.3 P s in
-          let found : 0 < c.relax_label-tried.result.steps = omega (arith, c.if-tried-ne0.true) in
-          record {
-            advance = advance-circuit b.advance refl (c.relax_label-tried.ensures.relaxes_label P (sought-after b.advance refl s)).advance found;
-            taken = λ e. absurd (omega (arith, found));
-            tried = λ e f. absurd (omega (arith, found));
-          };
-      notes_free = only_trans l.invariant.4 c.relax_label-tried.ensures.notes_free;
-    }
+pub returns-in_err-moved : goal.returns-in_err-moved
+returns-in_err-moved c P s =
+    let a = c.args in
+    let b = c.loop-label.invariant P s in
+    subst (RelaxesNode P a.claim a.u a.m.now c.relax_label.new.m) (sym (passed_up c.from_residual.result c.from_residual.ensures.1)) (record {
+      advance = advance-circuit b.advance (c.in_err-moved.ensures P (sought-after b.advance s)).advance;
+      taken = tt;
+      tried = tt;
+    })
 
 pub loop-label-preserved : goal.loop-label-preserved
-loop-label-preserved c =
-    let l = c.loop-label in (
-      omega arith,
-      c.relax_label-tried.ensures.notes_free.long ∙ l.invariant.1,
-      c.relax_label-tried.auto.m ∙ l.invariant.2,
-      λ P s.
-          let b = l.invariant.3 P s in
-          below_more b (c.relax_label-tried.ensures.relaxes_label P (sought-after b.advance refl s)) c.if-tried-ne0.false,
-      only_trans l.invariant.4 c.relax_label-tried.ensures.notes_free,
-    )
-
-pub set_mark-requires : goal.set_mark-requires
-set_mark-requires c =
-    let priced = c.requires.1.sought.priced in
-    (omega (arith, c.requires.2, priced.holds.rows.index.few), omega (arith, c.loop-label.invariant.2, priced.room))
+loop-label-preserved c P s = let b = c.loop-label.invariant P s in below_more b (c.in_ok-moved.ensures P (sought-after b.advance s))
 
 pub returns : goal.returns
-returns c =
-    let l = c.loop-label in
-    let rules = c.args.rules in
-    let labels : (1 * 2 ^ rules.count) % 256 ≡ 2 ^ rules.count =
-    labels_shifted rules.count (omega (arith, c.requires.0.size, c.requires.0.tasks.count)) in
-    let all : l.label ≡ 2 ^ rules.count = omega (arith, labels, l.invariant.0) in record {
-      relaxes_node = λ P s. below_all (l.invariant.3 P s) s c.requires.0 all c.requires.2 (known (goal.at.returns c).Else-link-ne-WAITING) c.set_mark.ensures;
-      notes_free = l.invariant.4;
-    }
+returns c P s =
+    let a = c.args in
+    let all : c.loop-label.label ≡ 2 ^ a.machine.now.rules.tasks.count = omega arith in
+    let known = waits-known (link_in a.m.now a.u).mark (waiting-is a.m.now a.u c.link_to.ensures c.waits.ensures c.if-not-waits.false) in
+    below_all (c.loop-label.invariant P s) s a.machine.now.ruled all c.requires.1 known c.set_mark.ensures

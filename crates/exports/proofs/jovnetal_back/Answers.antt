@@ -7,8 +7,7 @@ use native.Mathlib.Omega.{arith}
 use lib.ListN.{length}
 use Rattle.model.specs.Refusals.{not_in_first}
 use Rattle.theory.proofs.Converted.{back-unsaid, back_fits}
-use Rattle.refusals.specs.declared.Answer.{Answer}
-use Rattle.refusals.specs.Told.{result_by}
+use Rattle.refusals.specs.Told.{Answer, result_by}
 use Rattle.convert.specs.Promise.{SendsBack}
 use Rattle.exports.specs.Codes.{code_of, BackAs}
 use Rattle.exports.proofs.Codes.{due_by_number, converts_as}

@@ -2,11 +2,9 @@
 -- Assumes nothing.
 use mathlib.Core.Path.{◌≡◌, refl, sym, ap, ◌∙◌}
 use mathlib.Core.List.{List}
-use Prim.Native.Nat.{ℕ, ◌+◌}
-use native.Mathlib.Omega.{arith}
-use Rattle.refusals.proofs.Small.{refusal_small}
-use Rattle.cap.specs.View.{Checks}
-use Rattle.cap.specs.declared.Answer.{Answer}
+use Prim.Native.Nat.{ℕ}
+use Rattle.std.specs.Prelude.{None, Some, Ok}
+use Rattle.cap.specs.View.{Answer, Checks}
 use Rattle.exports.specs.Codes.{cap_code, slot_after, ChecksAs}
 use Rattle.exports.proofs.jovnetal_cap.Goals as goal
 
@@ -20,18 +18,15 @@ checks-as {slot = slot} {a = a} e code told checks = record {
   checks = checks;
 }
 
-pub overflow_add-result : goal.overflow_add-result
-overflow_add-result c = omega (arith, c.number.ensures, refusal_small c.in-Refused.r)
+pub returns-in-Ok-None : goal.returns-in-Ok-None
+returns-in-Ok-None c =
+    let is : ◌≡◌ {A = Answer} c.check.result (Ok None) = c.in-Ok-None.is ∙ ap Ok c.in-Ok-None.field-0-is in
+    checks-as is refl refl c.check.ensures
 
-pub returns-in-Refused : goal.returns-in-Refused
-returns-in-Refused c =
-    let s = c.check-answer.ensures in
-    checks-as c.in-Refused.is (ap (λ (n : ℕ). 65536 + n) c.number.ensures) refl s
+pub returns-in-Ok-Some : goal.returns-in-Ok-Some
+returns-in-Ok-Some c =
+    let is : ◌≡◌ {A = Answer} c.check.result (Ok (Some c.in-Ok-Some.t)) = c.in-Ok-Some.is ∙ ap Ok c.in-Ok-Some.field-0-is in
+    checks-as is refl refl c.check.ensures
 
-pub returns-in-Over : goal.returns-in-Over
-returns-in-Over c =
-    let s = c.check-answer.ensures in
-    checks-as c.in-Over.is refl refl s
-
-pub returns-in-Kept : goal.returns-in-Kept
-returns-in-Kept c = let s = c.check-answer.ensures in checks-as c.in-Kept.is refl refl s
+pub returns-in-Err : goal.returns-in-Err
+returns-in-Err c = checks-as c.in-Err.is c.refusal_code.ensures refl c.check.ensures

@@ -8,8 +8,7 @@ use lib.ListN.{length, take}
 use Rattle.model.specs.Combine.{AdmitsBoth}
 use Rattle.model.specs.Refusals.{too_many_pairs}
 use Rattle.theory.proofs.Combined.{combine-fits, combine-many}
-use Rattle.refusals.specs.declared.Answer.{Answer}
-use Rattle.refusals.specs.Told.{result_by}
+use Rattle.refusals.specs.Told.{Answer, result_by}
 use Rattle.combine.specs.Promise.{Combines}
 use Rattle.exports.specs.Codes.{code_of, CombinesAs}
 use Rattle.exports.proofs.Codes.{by_number, tells_as, due_by_number}

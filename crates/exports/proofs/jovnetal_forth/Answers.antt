@@ -5,8 +5,7 @@ use mathlib.Core.List.{List}
 use Prim.Native.Nat.{ℕ}
 use lib.ListN.{take}
 use Rattle.model.specs.Convert.{CarriesOver}
-use Rattle.refusals.specs.declared.Answer.{Answer}
-use Rattle.refusals.specs.Told.{result_by}
+use Rattle.refusals.specs.Told.{Answer, result_by}
 use Rattle.convert.specs.Promise.{SendsForth}
 use Rattle.exports.specs.Codes.{code_of, ForthAs}
 use Rattle.exports.proofs.Codes.{by_number, converts_as}

@@ -2,12 +2,9 @@
 -- Assumes nothing.
 use mathlib.Core.Path.{◌≡◌, refl, sym, ap, ◌∙◌}
 use mathlib.Core.List.{List}
-use Prim.Native.Nat.{ℕ, ◌+◌}
-use native.Mathlib.Omega.{arith}
-use Rattle.solver.specs.declared.Answer.{Answer}
-use Rattle.solver.specs.Promise.{Solves}
+use Prim.Native.Nat.{ℕ}
+use Rattle.solver.specs.Promise.{Answer, Solves}
 use Rattle.exports.specs.Codes.{solve_code, passes_after, SolvesAs}
-use Rattle.refusals.proofs.Small.{refusal_small}
 use Rattle.exports.proofs.jovnetal_solve.Goals as goal
 
 -- the answer that a match has told
@@ -20,15 +17,8 @@ solves-as {passes = passes} {a = a} e code told solves = record {
   solves = solves;
 }
 
-pub overflow_add-result : goal.overflow_add-result
-overflow_add-result c = omega (arith, c.number.ensures, refusal_small c.in-Refused.r)
+pub returns-in-Ok : goal.returns-in-Ok
+returns-in-Ok c = solves-as c.in-Ok.is refl refl c.solve.ensures
 
-pub returns-in-Refused : goal.returns-in-Refused
-returns-in-Refused c =
-    let s = c.solve-answer.ensures in
-    solves-as c.in-Refused.is (ap (λ (n : ℕ). 65536 + n) c.number.ensures) refl s
-
-pub returns-in-Written : goal.returns-in-Written
-returns-in-Written c =
-    let s = c.solve-answer.ensures in
-    solves-as c.in-Written.is refl refl s
+pub returns-in-Err : goal.returns-in-Err
+returns-in-Err c = solves-as c.in-Err.is c.refusal_code.ensures refl c.solve.ensures

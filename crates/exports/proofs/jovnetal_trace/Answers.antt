@@ -4,8 +4,7 @@ use mathlib.Core.Path.{◌≡◌}
 use mathlib.Core.List.{List}
 use Prim.Native.Nat.{ℕ}
 use Rattle.model.specs.Interrupted.{TellsCuts, cut_in}
-use Rattle.refusals.specs.declared.Answer.{Answer}
-use Rattle.refusals.specs.Told.{result_by}
+use Rattle.refusals.specs.Told.{Answer, result_by}
 use Rattle.tracer.specs.Promise.{Traces}
 use Rattle.exports.specs.Codes.{code_of, TracesAs}
 use Rattle.exports.proofs.Codes.{by_number, tells_as}

@@ -6,8 +6,7 @@ use Prim.Native.Nat.{ℕ}
 use lib.ListN.{take}
 use Rattle.model.specs.PlanBytes.{plan_bytes}
 use Rattle.model.specs.Convert.{CertificateCarried}
-use Rattle.refusals.specs.declared.Answer.{Answer}
-use Rattle.refusals.specs.Told.{result_by}
+use Rattle.refusals.specs.Told.{Answer, result_by}
 use Rattle.widen.specs.Promise.{Widens}
 use Rattle.exports.specs.Codes.{code_of, WidenedAs}
 use Rattle.exports.proofs.Codes.{by_number, tells_as}

@@ -16,15 +16,15 @@ size : {l : List ℕ} → l ≡ empty_table → length l ≡ pair_count
 size e = ap length e ∙ length-replicate {A = ℕ} pair_count 0
 
 pub loop-k-init : goal.loop-k-init
-loop-k-init c = (omega arith, sym (overwrite-none _ 0))
+loop-k-init c = sym (overwrite-none _ 0)
 
 pub loop-k-preserved : goal.loop-k-preserved
 loop-k-preserved c =
     let k = c.loop-k.k in
     let t = c.empty_table-next in
-    (omega arith, written-more (pair_entry c.args.gap) 0 t.result 0 k k k (omega arith) (omega arith) (omega (arith, size t.ensures)) c.entry.ensures c.loop-k.invariant.1)
+    written-more (pair_entry c.args.gap) 0 t.result 0 k k k (omega arith) (omega arith) (omega (arith, size t.ensures)) c.entry.ensures c.loop-k.invariant
 
 pub returns : goal.returns
 returns c =
     let t = c.empty_table-next in
-    written_all (pair_entry c.args.gap) 0 t.result c.loop-k.k pair_count (omega arith) (sym (size t.ensures)) c.loop-k.invariant.1
+    written_all (pair_entry c.args.gap) 0 t.result c.loop-k.k pair_count (omega arith) (sym (size t.ensures)) c.loop-k.invariant

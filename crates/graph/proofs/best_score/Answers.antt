@@ -3,4 +3,4 @@ use Rattle.graph.proofs.Notes.{score-read}
 use Rattle.graph.proofs.best_score.Goals as goal
 
 pub returns : goal.returns
-returns c = λ count. score-read c.args.notes.now count c.args.pattern c.requires.1
+returns c = λ count. score-read c.args.notes.now count c.args.pattern c.requires

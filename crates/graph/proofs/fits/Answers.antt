@@ -15,7 +15,7 @@ use Rattle.model.specs.Limits.{max_window}
 use Rattle.model.specs.Lists.{any, up_from, ones}
 use Rattle.model.specs.Masks.{bit_run, neighbouring}
 use Rattle.model.proofs.Runs.{one-moved, ones-counted, run_fits}
-use Rattle.plan.specs.declared.Task.{Task}
+use Rattle.plan.specs.declared.tasks.Task.{Task}
 use Rattle.plan.specs.View.{task_view}
 use Rattle.graph.specs.Choice.{fits_task}
 use Rattle.masks.proofs.Groups.{ones-le}
@@ -106,9 +106,11 @@ is_run-requires c =
     let a = c.args in
     let t = a.task in
     let w = works t a.m c.if-m-eq0.false c.if-wide-task-ne0.false c.if-wide-task.false in
-    rw (whole t a.m w c.requires)
-    (lt_of_lt_of_le (run_fits t.work (t.window + 1) (t.window + 1 + t.work) (omega arith))
-    (pow_mono {i = t.window + 1 + t.work} {j = 32} (omega (arith, work-low t a.m w, c.requires))))
+    rw (whole t a.m w c.requires) (
+      lt_of_lt_of_le (run_fits t.work (t.window + 1) (t.window + 1 + t.work) (omega arith))
+          (pow_mono {i = t.window + 1 + t.work} {j = 32} (omega (arith, work-low t a.m w, c.requires))),
+      omega (arith, c.requires),
+    )
 
 pub returns : goal.returns
 unfolding neighbouring

@@ -16,5 +16,5 @@ returns c =
       distance = (to_z-of_z {w = w64} (record { sfits = c.read_i64-distance.type_inv }) ∙ c.read_i64-distance.ensures) i;
       parent = c.read_u16-parent.ensures i;
       label = get_or m (link_place v + 10) 0;
-      mark = get_or m (link_place v + 11) 0;
+      mark = c.from.ensures i;
     }

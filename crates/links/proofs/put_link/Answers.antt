@@ -21,7 +21,8 @@ returns c =
     ∙ ap (λ z. overwrite c.args.m.now (link_place c.args.v) (bytes 8 (complement z))) (to_z-of_z {w = w64} told) in
     subst (Puts c.args.v c.args.link c.args.m.now)
     (sym
-    (ap (λ x. set (set x (link_place c.args.v + 10) c.args.link.label) (link_place c.args.v + 11) c.args.link.mark)
+    (ap (λ x. set (set x (link_place c.args.v + 10) c.args.link.label) (link_place c.args.v + 11) c.byte.result)
     (c.write_u16.ensures ∙ ap (λ x. overwrite x (link_place c.args.v + 8) (bytes 2 c.args.link.parent)) first)
+    ∙ ap (set _ (link_place c.args.v + 11)) c.byte.ensures
     ∙ link-written c.args.m.now (link_place c.args.v) c.args.link (omega (arith, c.requires))))
     (puts c.args.link told.sfits (omega (arith, c.requires)) c.args.m.now c.args.v c.requires.1 c.requires.0)

@@ -1,6 +1,6 @@
 -- `mask_text::list_group` meets its contract: the masks below m that have c ones are listed.
 -- Assumes nothing.
-use mathlib.Core.Path.{◌≡◌, refl, ap, ◌∙◌}
+use mathlib.Core.Path.{◌≡◌, ap}
 use mathlib.Core.List.{[], ◌∷◌}
 use Prim.Native.Nat.{ℕ, ◌+◌, ◌≤◌}
 use native.Mathlib.Omega.{arith}
@@ -26,23 +26,20 @@ room c m at size h fits =
     )
 
 pub loop-m-init : goal.loop-m-init
-loop-m-init c = (omega arith, refl, put-none _ _)
+loop-m-init c = put-none _ _
 
 pub list_mask-end-requires : goal.list_mask-end-requires
 list_mask-end-requires c =
-    (omega arith, omega (arith, c.loop-m.invariant.1, c.loop-m.invariant.2.next, room c.args.c c.loop-m.m c.args.at _ (omega arith) c.requires))
+    (omega arith, omega (arith, c.loop-m.auto.table, c.loop-m.invariant.next, room c.args.c c.loop-m.m c.args.at _ (omega arith) c.requires))
 
 pub loop-m-preserved : goal.loop-m-preserved
 loop-m-preserved c =
     let more = c.list_mask-end.ensures in
     let fits = room c.args.c c.loop-m.m c.args.at _ (omega arith) c.requires in
-    (omega arith, c.list_mask-end.auto.table ∙ c.loop-m.invariant.1, put_as (keep-more (λ k. eqb (ones max_window k) c.args.c) c.loop-m.m) (put_then c.loop-m.invariant.2 more (omega (arith, fits, more.next, c.loop-m.invariant.2.next))))
-
-pub shape_of-table : goal.shape_of-table
-shape_of-table c = c.loop-m.invariant.1
+    put_as (keep-more (λ k. eqb (ones max_window k) c.args.c) c.loop-m.m) (put_then c.loop-m.invariant more (omega (arith, fits, more.next, c.loop-m.invariant.next)))
 
 pub returns : goal.returns
 unfolding group
 returns c =
     let e : c.loop-m.m ≡ mask_count = omega arith in
-    rw e at c.loop-m.invariant.2
+    rw e at c.loop-m.invariant

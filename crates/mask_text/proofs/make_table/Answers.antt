@@ -20,21 +20,21 @@ room c h = omega (arith, group_start-suc c, group_start-le c h)
 
 pub loop-c-init : goal.loop-c-init
 unfolding groups_below
-loop-c-init c = (omega arith, length-replicate {A = ℕ} mask_count 0, put-none _ _)
+loop-c-init c = (length-replicate {A = ℕ} mask_count 0, put-none _ _)
 
 pub list_group-end-requires : goal.list_group-end-requires
 list_group-end-requires c =
-    omega (arith, c.loop-c.invariant.1, c.loop-c.invariant.2.next, room c.loop-c.c (omega arith))
+    omega (arith, c.loop-c.invariant.0, c.loop-c.invariant.1.next, room c.loop-c.c (omega arith))
 
 pub loop-c-preserved : goal.loop-c-preserved
 loop-c-preserved c =
     let more = c.list_group-end.ensures in
     let fits = room c.loop-c.c (omega arith) in
-    (omega arith, c.list_group-end.auto.table ∙ c.loop-c.invariant.1, put_as (sym (groups_below-suc c.loop-c.c) ∙ ap groups_below (sym (add-one c.loop-c.c))) (put_then c.loop-c.invariant.2 more (omega (arith, fits, more.next, c.loop-c.invariant.2.next, length-replicate {A = ℕ} mask_count 0))))
+    (c.list_group-end.auto.table ∙ c.loop-c.invariant.0, put_as (sym (groups_below-suc c.loop-c.c) ∙ ap groups_below (sym (add-one c.loop-c.c))) (put_then c.loop-c.invariant.1 more (omega (arith, fits, more.next, c.loop-c.invariant.1.next, length-replicate {A = ℕ} mask_count 0))))
 
 pub returns : goal.returns
 unfolding mask_table
 returns c =
     let e : c.loop-c.c ≡ suc max_window = omega arith in
-    c.loop-c.invariant.2.bytes ∙ ap (λ (k : ℕ). overwrite (replicate mask_count 0) 0 (groups_below k)) e
+    c.loop-c.invariant.1.bytes ∙ ap (λ (k : ℕ). overwrite (replicate mask_count 0) 0 (groups_below k)) e
     ∙ overwrite-all (replicate mask_count 0) mask_table (length-table ∙ sym (length-replicate {A = ℕ} mask_count 0))

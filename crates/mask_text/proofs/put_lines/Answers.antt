@@ -1,6 +1,6 @@
--- `mask_text::put_lines` meets its contract: the lines of the first i numbers are written.
+-- `mask_text::put_lines` meets its contract: the lines of the numbers gone through are written.
 -- Assumes nothing.
-use mathlib.Core.Path.{refl, ap, ◌∙◌}
+use mathlib.Core.Path.{ap}
 use mathlib.Core.List.{List}
 use Prim.Native.Nat.{ℕ, ◌+◌, ◌≤◌, ◌<◌}
 use native.Mathlib.Omega.{arith}
@@ -23,30 +23,27 @@ room table i size h fits =
       length-append (flat_map number_line (take i table)) (number_line (get_or table i 0)),
     )
 
-pub loop-i-init : goal.loop-i-init
-loop-i-init c = (omega arith, refl, put-none _ 0)
+pub loop-m-init : goal.loop-m-init
+loop-m-init c = put-none _ 0
 
 pub put_number_line-end-requires : goal.put_number_line-end-requires
 put_number_line-end-requires c =
     omega (
       arith,
-      ap (λ (n : ℕ). length (number_line n)) c.number.ensures,
-      c.loop-i.invariant.1,
-      c.loop-i.invariant.2.next,
-      room c.args.table.now c.loop-i.i _ (omega (arith, c.requires.0)) c.requires.1,
+      ap (λ (n : ℕ). length (number_line n)) c.from.ensures,
+      c.loop-m.auto.out,
+      c.loop-m.invariant.next,
+      room c.args.table.now c.loop-m.m-index _ (omega arith) c.requires,
     )
 
-pub loop-i-preserved : goal.loop-i-preserved
-loop-i-preserved c =
+pub loop-m-preserved : goal.loop-m-preserved
+loop-m-preserved c =
     let table = c.args.table.now in
-    let below : c.loop-i.i < length table = omega (arith, c.requires.0) in
-    let more = put_as (ap number_line c.number.ensures) c.put_number_line-end.ensures in
-    let fits = room table c.loop-i.i _ below c.requires.1 in
-    (omega arith, c.put_number_line-end.auto.out ∙ c.loop-i.invariant.1, put_as (lines_more number_line table c.loop-i.i below) (put_then c.loop-i.invariant.2 more (omega (arith, fits, more.next, c.loop-i.invariant.2.next))))
-
-pub shape_of-out : goal.shape_of-out
-shape_of-out c = c.loop-i.invariant.1
+    let below : c.loop-m.m-index < length table = omega arith in
+    let more = put_as (ap number_line c.from.ensures) c.put_number_line-end.ensures in
+    let fits = room table c.loop-m.m-index _ below c.requires in
+    put_as (lines_more number_line table c.loop-m.m-index below) (put_then c.loop-m.invariant more (omega (arith, fits, more.next, c.loop-m.invariant.next)))
 
 pub returns : goal.returns
 returns c =
-    put_as (ap (flat_map number_line) (take_all c.loop-i.i c.args.table.now (omega (arith, c.requires.0)))) c.loop-i.invariant.2
+    put_as (ap (flat_map number_line) (take_all c.loop-m.m-index c.args.table.now (omega arith))) c.loop-m.invariant

@@ -1,6 +1,6 @@
 -- `mask_text::put_masks` meets its contract: the lines are those of the table.
 -- Assumes nothing.
-use mathlib.Core.Path.{◌≡◌, refl, ap, ◌∙◌}
+use mathlib.Core.Path.{◌≡◌, refl, ap}
 use mathlib.Core.List.{List}
 use Prim.Native.Nat.{ℕ}
 use native.Mathlib.Omega.{arith}
@@ -8,7 +8,6 @@ use lib.ListN.{length}
 use Rattle.model.specs.Lists.{flat_map}
 use Rattle.model.specs.Masks.{group, groups_below, mask_table}
 use Rattle.model.specs.Text.{decimal, number_line, mask_text}
-use Rattle.masks.proofs.Groups.{length-table}
 use Rattle.text.proofs.Put.{put-inside}
 use Rattle.mask_text.proofs.put_masks.Goals as goal
 
@@ -20,8 +19,7 @@ text-length = refl
 pub put_lines-requires : goal.put_lines-requires
 unfolding mask_text
 put_lines-requires c =
-    let made = c.make_table-table.ensures in
-    (ap length made ∙ length-table, omega (arith, c.requires, text-length, ap (λ (l : List ℕ). length (flat_map number_line l)) made))
+    omega (arith, c.requires, text-length, ap (λ (l : List ℕ). length (flat_map number_line l)) c.make_table-table.ensures)
 
 pub returns : goal.returns
 unfolding mask_text

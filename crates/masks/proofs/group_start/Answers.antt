@@ -10,4 +10,4 @@ use Rattle.masks.proofs.group_start.Goals as goal
 
 pub returns : goal.returns
 unfolding group_start groups_below group
-returns c = c.wide.ensures ∙ get_or-table group_start (suc (suc max_window)) c.args.c 0 (search rules)
+returns c = c.from.ensures ∙ get_or-table group_start (suc (suc max_window)) c.args.c 0 (search rules)

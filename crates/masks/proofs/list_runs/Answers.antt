@@ -1,4 +1,4 @@
--- `masks::list_runs` meets its contract: so far the clear ones of the first k masks are listed. The measure is how many masks are left.
+-- `masks::list_runs` meets its contract: so far the clear ones of the first k masks are listed.
 -- Assumes nothing.
 use mathlib.Core.Path.{◌≡◌, sym, ap, ◌∙◌}
 use mathlib.Core.List.{◌++◌, []}
@@ -19,10 +19,7 @@ doubled first m k e = ap (λ (x : ℕ). x * 2) e ∙ mul_assoc first (2 ^ k) 2 �
 pub loop-k-init : goal.loop-k-init
 loop-k-init c =
     let a = c.args in
-    (omega arith, sym (mul-one a.first), omega arith, rw (runs_none a.pattern a.first) lists-none)
-
-pub bounds-list-next : goal.bounds-list-next
-bounds-list-next c = omega arith
+    (sym (mul-one a.first), omega arith, rw (runs_none a.pattern a.first) lists-none)
 
 pub overflow_add-next : goal.overflow_add-next
 overflow_add-next c =
@@ -35,33 +32,26 @@ overflow_mul-m c =
     let a = c.args in
     omega (
       arith,
-      doubled a.first l.m l.k l.invariant.1,
-      mul-le-mul_left a.first (pow_mono {i = l.k + 1} {j = a.count} (omega arith)),
+      doubled a.first l.m l._k l.invariant.0,
+      mul-le-mul_left a.first (pow_mono {i = l._k + 1} {j = a.count} (omega arith)),
       c.requires.0,
     )
-
-pub overflow_add-k : goal.overflow_add-k
-overflow_add-k c = omega arith
-
-pub loop-k-smaller : goal.loop-k-smaller
-loop-k-smaller c = omega arith
 
 pub loop-k-preserved : goal.loop-k-preserved
 loop-k-preserved c =
     let l = c.loop-k in
     let a = c.args in (
-      omega arith,
-      doubled a.first l.m l.k l.invariant.1,
+      doubled a.first l.m l._k l.invariant.0,
       omega (arith, c.if_clear-next.ensures, one-le (clear_of a.pattern l.m)),
       lists-more a.pattern l.m c.if_clear-next.result c.if_clear-next.ensures
-          (runs-more a.pattern a.first l.k
-          ∙ ap (λ (j : ℕ). clear_runs a.pattern a.first l.k ++ cons_if (clear_of a.pattern j) j []) (sym l.invariant.1))
-          c.requires.1 (omega arith) l.invariant.3,
+          (runs-more a.pattern a.first l._k
+          ∙ ap (λ (j : ℕ). clear_runs a.pattern a.first l._k ++ cons_if (clear_of a.pattern j) j []) (sym l.invariant.0))
+          c.requires.1 (omega arith) l.invariant.2,
     )
 
 pub returns : goal.returns
 returns c =
     let l = c.loop-k in
     let a = c.args in
-    let e : l.k ≡ a.count = omega arith in
-    lists-same (ap (clear_runs a.pattern a.first) e) l.invariant.3
+    let e : l._k ≡ a.count = omega arith in
+    lists-same (ap (clear_runs a.pattern a.first) e) l.invariant.2

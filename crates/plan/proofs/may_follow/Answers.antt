@@ -1,57 +1,39 @@
 -- `plan::may_follow` meets its contract: the arms are the definition's tests.
 -- Assumes nothing.
-use mathlib.Core.Path.{◌≡◌, sym}
-use mathlib.Core.Bool.{◌&&◌, and-true, and-false}
-use mathlib.Core.Logic.{inl, inr, ⊎_elim}
-use borrow.Author.Tests.{ne_eqb}
-use lib.Dec.{ltb}
+use mathlib.Core.Path.{◌≡◌, refl, sym, ap, ◌∙◌}
+use mathlib.Core.Bool.{Bool, true, false, false≢true, not, ◌&&◌}
+use Rattle.std.specs.Prelude as rust
+use Rattle.std.specs.Prelude.{None, Some, is_some, []}
+use Prim.Native.Nat.{ℕ}
+use lib.Dec.{eqb, ltb}
+use lib.ListN.{length}
 use Rattle.model.specs.Limits.{max_tasks}
-use Rattle.model.specs.Plan.{is_zero, may_follow}
-use Rattle.plan.proofs.View.{task-count, locked-any}
+use Rattle.model.specs.Plan.{may_follow, is_zero, any_locked}
+use Rattle.plan.specs.declared.Reading.{Reading}
+use Rattle.plan.specs.View.{command_number, given_in, list_of, reading_of, Within}
+use Rattle.plan.proofs.View.{tasks-size, locked-any}
 use Rattle.plan.proofs.may_follow.Goals as goal
+use Rattle.plan.proofs.may_follow.Goals.{then-is_none, else-is_none}
 
-pub returns-then-policy-ne0 : goal.returns-then-policy-ne0
-unfolding may_follow
-returns-then-policy-ne0 c = simp (c.in-1.is, ne_eqb _ _ c.if-policy-ne0.true)
+no_policy : (o : rust.Option ℕ) → is_some o ≡ false → is_zero (given_in o) ≡ true
+no_policy None e = refl
+no_policy (Some p) e = absurd (false≢true (sym e))
 
-pub returns-then-lock-ne0 : goal.returns-then-lock-ne0
-unfolding may_follow
-returns-then-lock-ne0 c =
-    let r = c.args.r in
-    sym
-    (simp (c.in-1.is, locked-any r c.requires, task-count r c.requires, ne_eqb r.lock 0 c.if-lock-ne0.true)
-    (and-false (is_zero r.policy && ltb r.count max_tasks)))
+twice : (b : Bool) → not (not b) ≡ b
+twice true = refl
+twice false = refl
 
-pub returns-else-lock-ne0 : goal.returns-else-lock-ne0
+-- where no policy is given and there is room, a task may follow if none is locked
+task-follows : (r : Reading) → Within r → is_some r.policy ≡ false → ltb r.tasks.count max_tasks ≡ true → (c : ℕ) → c ≡ 1 → eqb r.lock 0 ≡ may_follow (reading_of r []) c
 unfolding may_follow
-returns-else-lock-ne0 c =
-    let r = c.args.r in
-    sym
-    (simp (c.in-1.is, locked-any r c.requires, task-count r c.requires, c.if-policy-ne0.false, c.if-lock-ne0.false)
-    (and-true (ltb r.count max_tasks)))
+task-follows r w p room c is =
+    let k : eqb r.lock 0 ≡ (is_zero (given_in r.policy) && ltb (length (list_of r.tasks)) max_tasks && not (any_locked (list_of r.tasks))) =
+    sym ((λ i. no_policy r.policy p i && (ap (λ (n : ℕ). ltb n max_tasks) (tasks-size r.tasks) ∙ room) i && not (locked-any r w i)) ∙ twice (eqb r.lock 0)) in
+    simp is k
 
-pub returns-then-policy-eq0 : goal.returns-then-policy-eq0
-unfolding may_follow
-returns-then-policy-eq0 c =
-    let n = task-count _ c.requires in
-    ⊎_elim (λ (k : c.args.c ≡ 2). simp (k, c.if-policy-eq0.true, n)) (λ (k : c.args.c ≡ 9). simp (k, c.if-policy-eq0.true, n)) c.in-2.is
-
-pub returns-else-policy-eq0 : goal.returns-else-policy-eq0
-unfolding may_follow
-returns-else-policy-eq0 c =
-    let no = ne_eqb _ _ c.if-policy-eq0.false in
-    ⊎_elim (λ (k : c.args.c ≡ 2). simp (k, no)) (λ (k : c.args.c ≡ 9). simp (k, no)) c.in-2.is
-
-pub returns-then-policy-eq0-2 : goal.returns-then-policy-eq0-2
-unfolding may_follow
-returns-then-policy-eq0-2 c = simp (c.in-3.is, c.if-policy-eq0-2.true)
-
-pub returns-else-policy-eq0-2 : goal.returns-else-policy-eq0-2
-unfolding may_follow
-returns-else-policy-eq0-2 c = simp (c.in-3.is, ne_eqb _ _ c.if-policy-eq0-2.false)
-
-pub returns-in_default : goal.returns-in_default
-unfolding may_follow
-returns-in_default c =
-    let r = c.in_default.in_default-own.rest in
-    simp (ne_eqb _ _ r.0.0.1, ne_eqb _ 2 (λ k. r.0.1 (inl k)), ne_eqb _ 9 (λ k. r.0.1 (inr k)), ne_eqb _ _ r.1)
+pub returns-then-r-lt-MAX_TASKS : goal.returns-then-r-lt-MAX_TASKS
+returns-then-r-lt-MAX_TASKS c =
+    elim c.if-is_none.branch [
+      | then-is_none w ↦ task-follows _ c.requires w.if-is_none.ensures (sym w.value-is ∙ c.if-r-lt-MAX_TASKS.true) _ (ap command_number c.in-Task.is)
+      | else-is_none w ↦ absurd (false≢true (sym w.if-is_none.false ∙ sym w.value-is ∙ c.if-r-lt-MAX_TASKS.true))
+    ]

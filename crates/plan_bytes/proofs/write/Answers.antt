@@ -10,7 +10,7 @@ use Rattle.plan_bytes.proofs.write.Goals as goal
 pub write_in-requires : goal.write_in-requires
 write_in-requires c =
     let long = c.long_reads.ensures in
-    (inr (ap (λ (e : Edition). e.value_width) long), c.requires.0, λ t m h. ap (λ (e : Edition). e.locks) long, subst (λ (e : Edition). plan_room_in e ≤ length c.args.out.now) (sym long) c.requires.1)
+    (inr (ap (λ (e : Edition). e.value_width) long), λ t m h. ap (λ (e : Edition). e.locks) long, subst (λ (e : Edition). plan_room_in e ≤ length c.args.out.now) (sym long) c.requires)
 
 pub returns : goal.returns
 returns c = rw c.long_reads.ensures at c.write_in.ensures

@@ -11,7 +11,7 @@ use Rattle.model.specs.Limits.{max_tasks}
 use Rattle.model.specs.PlanBytes.{lock_bytes}
 use Rattle.model.proofs.Plan.{locks-few}
 use Rattle.node.specs.Edition.{edition_of}
-use Rattle.plan.specs.View.{plan_of, pair_count, Sized}
+use Rattle.plan.specs.View.{plan_of, pair_count}
 use Rattle.plan.proofs.View.{tasks-size}
 use Rattle.words.proofs.Put.{put_byte, put_then}
 use Rattle.plan_bytes.specs.Sizes.{arc_size}
@@ -25,60 +25,60 @@ most : (w n : ℕ) → n ≤ max_tasks → w * n ≤ max_tasks * w
 most w n h = omega (arith, mul-le-mul_left w h)
 
 -- the tasks and the locks leave room for the rest
-room : (e : Edition) (p : Plan) (out : List ℕ) → Sized p → LocksFit e (plan_of p).tasks → plan_room_in e ≤ length out →
-    task_width e * p.count + length (lock_bytes (plan_of p).tasks 1) + 4 + arc_size * pair_count + 1 ≤ length out
-room e p out sized locks fits =
+room : (e : Edition) (p : Plan) (out : List ℕ) → LocksFit e (plan_of p).tasks → plan_room_in e ≤ length out →
+    task_width e * p.tasks.count + length (lock_bytes (plan_of p).tasks 1) + 4 + arc_size * pair_count + 1 ≤ length out
+room e p out locks fits =
     let each : ℕ = cond e.locks 2 0 in
     omega (
       arith,
       fits,
-      most (task_width e) p.count sized.fits,
+      most (task_width e) p.tasks.count p.tasks.fits,
       locks-few e (plan_of p).tasks 1 locks,
-      ap (λ (n : ℕ). each * n) (tasks-size p sized),
-      most each p.count sized.fits,
+      ap (λ (n : ℕ). each * n) (tasks-size p.tasks),
+      most each p.tasks.count p.tasks.fits,
     )
 
 pub write_tasks-head-requires : goal.write_tasks-head-requires
 write_tasks-head-requires c =
     let a = c.args in
     let r = c.requires in
-    (r.1.fits, omega (arith, room (edition_of a.edition) a.plan a.out.now r.1 r.2 r.3), r.0)
+    (omega (arith, room (edition_of a.edition) a.plan a.out.now r.1 r.2), r.0)
 
 pub write_locks-locks-requires : goal.write_locks-locks-requires
 write_locks-locks-requires c =
     let a = c.args in
     let r = c.requires in
-    (r.1.fits, omega (arith, room (edition_of a.edition) a.plan a.out.now r.1 r.2 r.3))
+    omega (arith, room (edition_of a.edition) a.plan a.out.now r.1 r.2)
 
 pub write_four-arcs-requires : goal.write_four-arcs-requires
 write_four-arcs-requires c =
     let a = c.args in
     let r = c.requires in
-    omega (arith, room (edition_of a.edition) a.plan a.out.now r.1 r.2 r.3)
+    omega (arith, room (edition_of a.edition) a.plan a.out.now r.1 r.2)
 
 pub write_arcs-end-requires : goal.write_arcs-end-requires
 write_arcs-end-requires c =
     let a = c.args in
     let r = c.requires in
-    omega (arith, room (edition_of a.edition) a.plan a.out.now r.1 r.2 r.3)
+    omega (arith, room (edition_of a.edition) a.plan a.out.now r.1 r.2)
 
 pub overflow_add-size : goal.overflow_add-size
 overflow_add-size c =
     let a = c.args in
     let r = c.requires in
-    omega (arith, room (edition_of a.edition) a.plan a.out.now r.1 r.2 r.3)
+    omega (arith, room (edition_of a.edition) a.plan a.out.now r.1 r.2)
 
 pub bounds-out-end : goal.bounds-out-end
 bounds-out-end c =
     let a = c.args in
     let r = c.requires in
-    omega (arith, room (edition_of a.edition) a.plan a.out.now r.1 r.2 r.3)
+    omega (arith, room (edition_of a.edition) a.plan a.out.now r.1 r.2)
 
 pub returns : goal.returns
 returns c =
     let a = c.args in
     let r = c.requires in
-    let free = room (edition_of a.edition) a.plan a.out.now r.1 r.2 r.3 in
+    let free = room (edition_of a.edition) a.plan a.out.now r.1 r.2 in
     let head = put_then c.write_tasks-head.ensures.0 c.write_locks-locks.ensures (omega (arith, free)) in
     let mid = put_then head c.write_four-arcs.ensures (omega (arith, free)) in
     let arcs = put_then mid c.write_arcs-end.ensures.0 (omega (arith, free)) in

@@ -8,7 +8,7 @@ use native.Mathlib.Omega.{arith}
 use borrow.Author.Tests.{not-true, not-false}
 use lib.ListN.{length, set, length-set}
 use Rattle.model.specs.PlanBytes.{lock_bytes}
-use Rattle.plan.specs.declared.Task.{Task}
+use Rattle.plan.specs.declared.tasks.Task.{Task}
 use Rattle.plan.specs.View.{task_view}
 use Rattle.words.proofs.Put.{put-none, put_byte, put_then, put_as}
 use Rattle.plan_bytes.proofs.Pieces.{lock-bytes}

@@ -1,26 +1,39 @@
 -- `plan_bytes::write_locks` meets its contract: the locks of the tasks before i are written.
 -- Assumes nothing.
-use mathlib.Core.Path.{◌≡◌, refl, ◌∙◌}
+use mathlib.Core.Path.{◌≡◌, ap, ◌∙◌}
+use mathlib.Core.List.{List}
+use Prim.Native.Nat.{ℕ}
 use native.Mathlib.Omega.{arith}
-use Rattle.words.proofs.Put.{put-none}
-use Rattle.plan_bytes.proofs.Pieces.{lock-fits, locks-more}
+use lib.ListN.{length}
+use Rattle.model.specs.Plan.{Task}
+use Rattle.model.specs.PlanBytes.{lock_bytes}
+use Rattle.plan.specs.View.{tasks_of}
+use Rattle.words.proofs.Put.{put-none, put_as}
+use Rattle.plan_bytes.proofs.Pieces.{lock-fits, locks-more, shown, shown-count}
 use Rattle.plan_bytes.proofs.write_locks.Goals as goal
 
 pub loop-i-init : goal.loop-i-init
-loop-i-init c = (omega arith, refl, put-none _ _)
+loop-i-init c = put-none _ _
 
 pub write_lock-end-requires : goal.write_lock-end-requires
 write_lock-end-requires c =
-    (omega arith, omega (arith, c.requires.1, c.loop-i.invariant.1, c.loop-i.invariant.2.next, lock-fits c.args.tasks c.args.count c.loop-i.i (omega arith) (omega arith)))
+    let ts = c.as_slice-task-items.result.now in
+    let count = shown-count ts c.args.tasks.now c.as_slice-task-items.ensures in
+    let whole = ap (λ (us : List Task). length (lock_bytes us 1)) (shown ts _ c.as_slice-task-items.ensures) in (
+      omega (arith, count, c.loop-i-test.true, c.args.tasks.now.fits),
+      omega (arith, c.requires, whole, c.loop-i.auto.out, c.loop-i.invariant.next, lock-fits ts (length ts) c.loop-i.i c.loop-i-test.true (omega arith)),
+    )
 
 pub loop-i-preserved : goal.loop-i-preserved
 loop-i-preserved c =
-    let a = c.args in
+    let ts = c.as_slice-task-items.result.now in
     let more = c.write_lock-end.ensures in
-    let fits = lock-fits a.tasks a.count c.loop-i.i (omega arith) (omega arith) in
-    (omega arith, c.write_lock-end.auto.out ∙ c.loop-i.invariant.1, locks-more a.tasks c.loop-i.i (omega arith) c.loop-i.invariant.2 more (omega (arith, fits, c.requires.1, more.next, c.loop-i.invariant.2.next)))
+    let whole = ap (λ (us : List Task). length (lock_bytes us 1)) (shown ts _ c.as_slice-task-items.ensures) in
+    let fits = lock-fits ts (length ts) c.loop-i.i c.loop-i-test.true (omega arith) in
+    locks-more ts c.loop-i.i c.loop-i-test.true c.loop-i.invariant more (omega (arith, fits, whole, c.requires, more.next, c.loop-i.invariant.next))
 
 pub returns : goal.returns
 returns c =
-    let e : c.loop-i.i ≡ c.args.count = omega arith in
-    rw e at c.loop-i.invariant.2
+    let ts = c.as_slice-task-items.result.now in
+    let all : c.loop-i.i ≡ length ts = omega (arith, c.loop-i-test.false, c.loop-i.auto.i-end) in
+    put_as (ap (λ (k : ℕ). lock_bytes (tasks_of ts k) 1) all ∙ ap (λ (us : List Task). lock_bytes us 1) (shown ts _ c.as_slice-task-items.ensures)) c.loop-i.invariant

@@ -1,40 +1,24 @@
 -- `policy::has_job` meets its contract: the loop finds the greatest work.
 -- Assumes nothing.
-use mathlib.Core.Path.{◌≡◌, refl, sym, ap, ◌∙◌}
-use mathlib.Core.Bool.{cond}
-use Prim.Native.Nat.{ℕ}
-use native.Mathlib.Numerals.{add-one}
-use native.Mathlib.Omega.{arith}
-use lib.Dec.{ltb}
-use lib.ListN.{get_or}
-use Rattle.policy.specs.View.{slot_cells, greatest, has_job}
+use Rattle.std.proofs.Common.{refl, ap, ltb, ◌∙◌, sym, add-one, ℕ, cond, get_or, ◌≡◌, arith}
+use Rattle.policy.specs.View.{greatest, has_job, slot_cells}
+use Rattle.policy.proofs.Keys.{greatest-max}
 use Rattle.policy.proofs.has_job.Goals as goal
 
-pub loop-k-init : goal.loop-k-init
+pub loop-work-init : goal.loop-work-init
 unfolding greatest
-loop-k-init c = (omega arith, refl)
+loop-work-init c = refl
 
-pub bounds-cells-k : goal.bounds-cells-k
-bounds-cells-k c = omega arith
-
-pub overflow_add-k : goal.overflow_add-k
-overflow_add-k c = omega arith
-
-pub loop-k-smaller : goal.loop-k-smaller
-loop-k-smaller c = omega arith
-
-pub loop-k-preserved : goal.loop-k-preserved
+pub loop-work-preserved : goal.loop-work-preserved
 unfolding greatest
-loop-k-preserved c =
-    let cells = c.args.cells.now in (
-      omega arith,
-      c.most-work.ensures
-          ∙ ap (λ (w : ℕ). cond (ltb w (get_or cells c.loop-k.k 0)) (get_or cells c.loop-k.k 0) w) c.loop-k.invariant.1
-          ∙ ap (greatest (λ i. get_or cells i 0)) (sym (add-one c.loop-k.k)),
-    )
+loop-work-preserved c =
+    let f = λ (i : ℕ). get_or c.args.cells.now i 0 in
+    let k = c.loop-work.work-index in
+    c.max-most.ensures ∙ greatest-max c.loop-work.most (f k)
+    ∙ ap (λ (w : ℕ). cond (ltb w (f k)) (f k) w) c.loop-work.invariant ∙ ap (greatest f) (sym (add-one k))
 
 pub returns : goal.returns
 unfolding has_job
 returns c =
-    let end : c.loop-k.k ≡ slot_cells = omega arith in
-    ap (ltb 0) (c.loop-k.invariant.1 ∙ ap (greatest (λ i. get_or c.args.cells.now i 0)) end)
+    let end : c.loop-work.work-index ≡ slot_cells = omega arith in
+    ap (ltb 0) (c.loop-work.invariant ∙ ap (greatest (λ (i : ℕ). get_or c.args.cells.now i 0)) end)

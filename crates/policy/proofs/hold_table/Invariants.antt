@@ -1,16 +1,10 @@
--- `policy::hold_table` meets its contract: the loop fills the table from the front.
--- Assumes nothing.
-use mathlib.Core.Path.{◌≡◌}
-use mathlib.Core.List.{map}
-use Prim.Native.Nat.{◌-◌, ◌≤◌}
+-- The loop writes the table from the front.
+use Rattle.std.proofs.Common.{◌≡◌, map}
 use Rattle.model.specs.Bytes.{overwrite}
 use Rattle.model.specs.Lists.{up_from}
-use Rattle.plan.specs.View.{tasks_of}
-use Rattle.policy.specs.View.{slot_cells, hold_in}
+use Rattle.plan.specs.View.{list_of}
+use Rattle.policy.specs.View.{hold_in}
 use Rattle.policy.proofs.hold_table.Given as goal
 
 abbrev pub invariant-loop-k : goal.invariant-loop-k
-invariant-loop-k l = (l.k ≤ slot_cells) × (l.hold ≡ overwrite l.initial.hold 0 (map (hold_in (tasks_of l.tasks l.count)) (up_from 0 l.k)))
-
-abbrev pub decreases-loop-k : goal.decreases-loop-k
-decreases-loop-k l = slot_cells - l.k
+invariant-loop-k l = l.hold ≡ overwrite l.initial.hold 0 (map (hold_in (list_of l.tasks)) (up_from 0 l.k))

@@ -1,30 +1,23 @@
 -- `policy::key_of` meets its contract: each policy's parts.
 -- Assumes nothing.
-use borrow.Author.Tests.{eq-eqb, ne_eqb}
-use Rattle.policy.specs.View.{key_in}
-use native.Mathlib.Omega.{arith}
+use Rattle.std.proofs.Common.{arith, subst}
+use Rattle.policy.specs.View.{StandsFor, key_in}
 use Rattle.policy.proofs.key_of.Goals as goal
 
-pub returns-in-1 : goal.returns-in-1
+pub returns-in-Edf : goal.returns-in-Edf
 unfolding key_in
-returns-in-1 c = rw (eq-eqb c.args.policy 1 c.in-1.is) (omega (arith, c.key.ensures))
+returns-in-Edf c = rw (subst (StandsFor c.args.policy) c.in-Edf.is c.from.ensures) (omega (arith, c.key.ensures))
 
-pub returns-in-2 : goal.returns-in-2
+pub returns-in-Srt : goal.returns-in-Srt
 unfolding key_in
-returns-in-2 c =
-    let p = c.args.policy in
-    let e = c.in-2.is in
-    rw (ne_eqb p 1 (λ f. omega arith), eq-eqb p 2 e) (omega (arith, c.key-in-2.ensures))
+returns-in-Srt c = rw (subst (StandsFor c.args.policy) c.in-Srt.is c.from.ensures) (omega (arith, c.key-in-Srt.ensures))
 
-pub returns-in-3 : goal.returns-in-3
+pub returns-in-Fifo : goal.returns-in-Fifo
 unfolding key_in
-returns-in-3 c =
-    let p = c.args.policy in
-    let e = c.in-3.is in
-    rw (ne_eqb p 1 (λ f. omega arith), ne_eqb p 2 (λ f. omega arith), eq-eqb p 3 e) (omega (arith, c.key-in-3.ensures))
+returns-in-Fifo c = rw (subst (StandsFor c.args.policy) c.in-Fifo.is c.from.ensures) (omega (arith, c.key-in-Fifo.ensures))
 
-pub returns-in_default : goal.returns-in_default
+pub returns-in-Sp : goal.returns-in-Sp
 unfolding key_in
-returns-in_default c =
-    let p = c.args.policy in
-    rw (ne_eqb p 1 (λ f. omega arith), ne_eqb p 2 (λ f. omega arith), ne_eqb p 3 (λ f. omega arith)) (omega (arith, c.key-in_default.ensures))
+returns-in-Sp c =
+    let others = subst (StandsFor c.args.policy) c.in-Sp.is c.from.ensures in
+    rw (others.0, others.1, others.2) (omega (arith, c.key-in-Sp.ensures))

@@ -1,35 +1,18 @@
--- `policy::left_table` meets its contract: the loop fills the table from the front.
--- Assumes nothing.
-use mathlib.Core.Path.{refl, sym}
+-- The loop writes the table from the front.
+use Rattle.std.proofs.Common.{refl, sym, ◌+◌, arith}
 use Rattle.words.proofs.Memory.{overwrite-none}
-use Rattle.plan.specs.View.{tasks_of}
-use Rattle.policy.specs.View.{slot_cells, left_in}
 use Rattle.words.proofs.Tables.{written-more, written_all}
-use native.Mathlib.Omega.{arith}
+use Rattle.plan.specs.View.{list_of}
+use Rattle.policy.specs.View.{slot_cells, left_in}
 use Rattle.policy.proofs.left_table.Goals as goal
 
 pub loop-k-init : goal.loop-k-init
-loop-k-init c = (omega arith, sym (overwrite-none _ 0))
-
-pub left_in-requires : goal.left_in-requires
-left_in-requires c = omega arith
-
-pub bounds-left-k : goal.bounds-left-k
-bounds-left-k c = omega arith
-
-pub overflow_add-k : goal.overflow_add-k
-overflow_add-k c = omega arith
-
-pub loop-k-smaller : goal.loop-k-smaller
-loop-k-smaller c = omega arith
+loop-k-init c = sym (overwrite-none _ 0)
 
 pub loop-k-preserved : goal.loop-k-preserved
 loop-k-preserved c =
-    let k = c.loop-k.k in (
-      omega arith,
-      written-more (left_in (tasks_of c.args.tasks c.args.count)) 0 _ 0 k k k (omega arith) (omega arith) c.loop-k-test.true c.left_in.ensures c.loop-k.invariant.1,
-    )
+    let k = c.loop-k.k in
+    written-more (left_in (list_of c.args.tasks.now)) 0 _ 0 k k k (omega arith) (omega arith) c.loop-k-test.true c.left_in.ensures c.loop-k.invariant
 
 pub returns : goal.returns
-returns c =
-    written_all (left_in (tasks_of c.args.tasks c.args.count)) 0 _ c.loop-k.k slot_cells (omega arith) refl c.loop-k.invariant.1
+returns c = written_all (left_in (list_of c.args.tasks.now)) 0 _ c.loop-k.k slot_cells (omega arith) refl c.loop-k.invariant

@@ -1,11 +1,12 @@
 -- `policy::slot` meets its contract: the steps on cells are those of the rule.
 -- Assumes nothing.
-use mathlib.Core.Path.{◌≡◌, sym, ap, ◌∙◌}
+use mathlib.Core.Path.{◌≡◌, refl, ap, ◌∙◌, subst}
+use Rattle.std.proofs.Common.{Some}
 use mathlib.Core.List.{List, ◌++◌}
 use Prim.Native.Nat.{ℕ, ◌<◌}
 use native.Mathlib.Omega.{arith}
 use Rattle.model.specs.Slot.{key, new_jobs}
-use Rattle.policy.specs.View.{slot_cells, jobs_of, tasks_in, Leaves, Ruled, Cells, cell_count, joined_cells, first_cell, runnable_cells}
+use Rattle.policy.specs.View.{cell_number, slot_cells, jobs_of, tasks_in, Leaves, Slotted, Ruled, Cells, cell_count, joined_cells, first_cell, runnable_cells}
 use Rattle.policy.specs.declared.Rules.{Rules}
 use Rattle.policy.proofs.Cells.{worked-leaves, aged-leaves}
 use Rattle.policy.proofs.NewJobs.{joined-leaves}
@@ -35,47 +36,39 @@ steps r cells label {ready} given joins runs is =
       first = is ∙ ap (λ pool. first_cell r.policy pool r.left) (runs ∙ ap (λ cells. runnable_cells cells r.hold) joins);
     }
 
-inside : {r : Rules} {cells : List ℕ} {label : ℕ} {ready : List ℕ} {at : ℕ} → Steps r cells label ready at → (at ≡ slot_cells → ⊥) → at < slot_cells
-inside s ne = omega (arith, s.chosen.bound)
-
-pub returns-then-at-eq-SLOT_CELLS : goal.returns-then-at-eq-SLOT_CELLS
-returns-then-at-eq-SLOT_CELLS c =
-    let a = c.args in
-    let ts = tasks_in a.rules in
-    let s = steps a.rules a.cells a.label c.requires c.join-ready.ensures c.runnable-pool.ensures c.choose-at.ensures in
-    let aged = aged-leaves ts s.ruled.tasks _ s.ruled.left c.join-ready.result s.entered.cells c.age-older.ensures in
+pub returns-in_default : goal.returns-in_default
+returns-in_default c =
+    let r = c.args.rules.now in
+    let ts = tasks_in r in
+    let s = steps r c.args.cells.now c.args.label c.requires c.join-ready.ensures c.runnable-pool.ensures c.in_default.ensures.cell in
+    let aged = aged-leaves ts s.ruled.tasks _ s.ruled.left c.join-ready.result s.entered.cells c.age.ensures in
     record {
-      rule = λ P same by. slot_idle P ts _ same by _ _ c.join-ready.result s.entered.jobs c.choose-at.result c.if-at-eq-SLOT_CELLS.true s.chosen.choice _ aged.jobs;
-      cells = aged.cells;
-      ran = sym c.if-at-eq-SLOT_CELLS.true ∙ s.first;
-    }
-
-pub bounds-ready-at : goal.bounds-ready-at
-bounds-ready-at c =
-    inside (steps c.args.rules c.args.cells c.args.label c.requires c.join-ready.ensures c.runnable-pool.ensures c.choose-at.ensures) c.if-at-eq-SLOT_CELLS.false
-
-pub run-after-requires : goal.run-after-requires
-run-after-requires c =
-    let s = steps c.args.rules c.args.cells c.args.label c.requires c.join-ready.ensures c.runnable-pool.ensures c.choose-at.ensures in
-    let lt = inside s c.if-at-eq-SLOT_CELLS.false in
-    (lt, s.chosen.work lt)
-
-pub overflow_cast-ran : goal.overflow_cast-ran
-overflow_cast-ran c =
-    let s = steps c.args.rules c.args.cells c.args.label c.requires c.join-ready.ensures c.runnable-pool.ensures c.choose-at.ensures in
-    let lt = inside s c.if-at-eq-SLOT_CELLS.false in
-    omega arith
-
-pub returns : goal.returns
-returns c =
-    let a = c.args in
-    let ts = tasks_in a.rules in
-    let s = steps a.rules a.cells a.label c.requires c.join-ready.ensures c.runnable-pool.ensures c.choose-at.ensures in
-    let lt = inside s c.if-at-eq-SLOT_CELLS.false in
-    let ran = worked-leaves ts c.join-ready.result c.choose-at.result s.entered.cells lt (s.chosen.work lt) c.run-after.ensures in
-    let aged = aged-leaves ts s.ruled.tasks _ s.ruled.left c.run-after.result ran.cells c.age-older-2.ensures in
-    record {
-      rule = λ P same by. slot-ran P ts _ same by _ _ c.join-ready.result s.entered.jobs c.choose-at.result lt s.chosen.choice _ _ ran.jobs aged.jobs _ c.gain_in-gain.ensures;
+      rule = λ P same by. slot_idle P ts _ same by _ _ c.join-ready.result s.entered.jobs slot_cells refl s.chosen.choice _ aged.jobs;
       cells = aged.cells;
       ran = s.first;
     }
+
+pub bounds-ready-k : goal.bounds-ready-k
+bounds-ready-k c = omega (arith, c.from-k.ensures, c.in-Some.ensures.below)
+
+pub run-after-requires : goal.run-after-requires
+run-after-requires c =
+    let lt : c.from-k.result < slot_cells = omega (arith, c.from-k.ensures, c.in-Some.ensures.below) in
+    let s = steps c.args.rules.now c.args.cells.now c.args.label c.requires c.join-ready.ensures c.runnable-pool.ensures (c.from-k.ensures ∙ c.in-Some.ensures.cell) in
+    (lt, s.chosen.work lt)
+
+pub returns : goal.returns
+returns c =
+    let r = c.args.rules.now in
+    let ts = tasks_in r in
+    let k = c.from-k.result in
+    let lt : k < slot_cells = omega (arith, c.from-k.ensures, c.in-Some.ensures.below) in
+    let s = steps r c.args.cells.now c.args.label c.requires c.join-ready.ensures c.runnable-pool.ensures (c.from-k.ensures ∙ c.in-Some.ensures.cell) in
+    let ran = worked-leaves ts c.join-ready.result k s.entered.cells lt (s.chosen.work lt) c.run-after.ensures in
+    let aged = aged-leaves ts s.ruled.tasks _ s.ruled.left c.run-after.result ran.cells c.age-2.ensures in
+    subst (λ (n : ℕ). Slotted r c.args.cells.now c.args.label (record { cells = c.age-2.result; ran = Some n; gain = c.gain_in-gain.result })) c.from-k.ensures
+    (record {
+      rule = λ P same by. slot-ran P ts _ same by _ _ c.join-ready.result s.entered.jobs k lt s.chosen.choice _ _ ran.jobs aged.jobs _ c.gain_in-gain.ensures;
+      cells = aged.cells;
+      ran = s.first;
+    })

@@ -5,7 +5,7 @@ use mathlib.Core.List.{List}
 use Prim.Native.Nat.{ℕ, ◌%◌}
 use lib.ListN.{length}
 use Rattle.policy.specs.declared.Rules.{Rules}
-use Rattle.controller.specs.declared.Block.{Block}
+use Rattle.controller.specs.declared.part.Block.{Block}
 use Rattle.block_text.proofs.Parts.{RunsTo}
 use Rattle.run_block.proofs.run_parts.Given as goal
 
@@ -15,8 +15,5 @@ pub record Through (r : Rules) (next : List ℕ) (b after : Block) : Type 0 wher
   pub even : length writes % 2 ≡ 0
   pub runs : RunsTo r next b writes after
 
-abbrev pub invariant-loop-turns : goal.invariant-loop-turns
-invariant-loop-turns l = Through l.rules l.next l.initial.after l.after
-
-abbrev pub decreases-loop-turns : goal.decreases-loop-turns
-decreases-loop-turns l = l.turns
+abbrev pub invariant-loop : goal.invariant-loop
+invariant-loop l = Through l.machine.rules l.machine.next l.initial.block l.block

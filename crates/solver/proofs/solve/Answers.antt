@@ -2,7 +2,6 @@
 use mathlib.Core.Path.{ap, ◌∙◌}
 use Prim.Native.Nat.{ℕ}
 use lib.ListN.{replicate}
-use Rattle.words.proofs.Memory.{overwrite-zeros}
 use Rattle.solver.proofs.Answers.{short-work, short-out, enough}
 use Rattle.solver.proofs.solve.Goals as goal
 
@@ -17,4 +16,4 @@ returns c =
     let call = c.solve_bytes-answer in
     let a = c.args in
     enough a.plan.now a.work.now a.out.now _ _ _ c.if-work-lt-WORK_ROOM.false c.if-out-lt-CERTIFICATE_ROOM.false call.ensures.does
-    (c.fill.ensures ∙ overwrite-zeros call.new.m ∙ ap (λ (n : ℕ). replicate n 0) call.auto.m)
+    (c.fill.ensures.after (λ y e. e) ∙ ap (λ (n : ℕ). replicate n 0) call.auto.m)

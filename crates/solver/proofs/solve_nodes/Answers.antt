@@ -2,19 +2,17 @@
 use mathlib.Core.Path.{ap}
 use Prim.Native.Nat.{ℕ}
 use native.Mathlib.Omega.{arith}
-use Rattle.words.proofs.Free.{only_trans}
-use Rattle.solver.specs.declared.Answer.TheVariants.{Written}
+use Rattle.std.specs.Prelude.{Ok}
+use Rattle.solver.specs.Promise.{Answer}
 use Rattle.solver.proofs.solve_nodes.Goals as goal
 
 pub write-bytes-requires : goal.write-bytes-requires
 write-bytes-requires c =
-    let h = c.requires.1 in
+    let h = c.requires.0 in
     let call = c.least-solution in (
-      c.requires.0,
-      record { next = c.args.next.now; solvable = record { plan = h.plan; solving = call.ensures.solving h.plan h.planned h.holds } },
-      omega (arith, c.requires.2, call.auto.m),
-      omega (arith, c.requires.3, call.ensures.notes_free.long),
-      c.requires.4,
+      record { next = c.args.machine.now.next; solvable = record { plan = h.plan; solving = call.ensures.solving h.plan h.planned h.holds } },
+      omega (arith, c.requires.1, call.auto.m),
+      c.requires.2,
     )
 
 pub returns : goal.returns
@@ -22,14 +20,13 @@ returns c =
     let least = c.least-solution in
     let write = c.write-bytes in record {
       writes = λ P planned holds.
-          let w = write.ensures.written P c.args.next.now (least.ensures.solving P planned holds) in
+          let w = write.ensures P c.args.machine.now.next (least.ensures.solving P planned holds) in
           record {
             certificate = w.certificate;
             passes = least.result.passes;
             solved = w.solved;
-            answer = ap (λ (n : ℕ). Written n least.result.passes) w.size;
+            answer = ap {B = Answer} (λ (n : ℕ). Ok (record { bytes = n; passes = least.result.passes })) w.size;
             bytes = w.bytes;
           };
       only = least.ensures.only;
-      notes_free = only_trans least.ensures.notes_free write.ensures.notes_free;
     }

@@ -1,12 +1,12 @@
 -- `store::append` meets its contract. Assumes nothing.
 use mathlib.Core.Path.{◌≡◌, sym, ap, subst, ◌∙◌}
 use mathlib.Core.List.{List}
-use Prim.Native.Nat.{ℕ, ◌+◌, ◌^◌, ◌<◌}
-use lib.Seq.{take_all}
-use borrow.Author.Rules.{rules}
+use Prim.Native.Nat.{ℕ, ◌+◌, ◌*◌, ◌-◌, ◌^◌, ◌<◌}
 use native.Mathlib.Omega.{arith}
-use Rattle.model.specs.Bytes.{part}
+use borrow.Author.Rules.{rules}
+use borrow.Rule.Slice.PartMut.{put_mid}
 use Rattle.store.specs.Store.{row_bytes, buckets_at, chain_at, Appended}
+use Rattle.store.proofs.Tables.{overwrite-part_whole}
 use Rattle.store.proofs.Extend.{with_row, with_entry, chained, appended, held_small, written, appends}
 use Rattle.store.proofs.append.Goals as goal
 
@@ -22,12 +22,12 @@ returns c =
     let row = c.args.row.now in
     let h = c.hash-h in
     let v = c.entry-before in
-    let copied = c.copy in
     let chain = c.put_entry in
     let bucket = c.put_entry-2 in
-    let whole : part row 0 row_bytes ≡ row = take_all row_bytes row (omega (arith, c.requires.2)) in
-    let first : copied.new.dst ≡ with_row m n row
-    = ◌∙◌ {b = with_row m n (part row 0 row_bytes)} copied.ensures (ap (with_row m n) whole) in
+    let copied = c.copy_from_slice in
+    let at = row_bytes * n in
+    let first : put_mid at (at + row_bytes - at) m copied.new.self ≡ with_row m n row
+    = ap (put_mid at (at + row_bytes - at) m) copied.ensures.after ∙ overwrite-part_whole at (at + row_bytes - at) m row (omega (arith, c.told-row)) in
     let second : chain.new.m ≡ chained m n row v.result
     = chain.ensures ∙ ap (λ (l : List ℕ). with_entry l chain_at n v.result) first in
     let third : bucket.new.m ≡ appended m n row v.result h.result
@@ -35,4 +35,4 @@ returns c =
     let small : v.result < 256 ^ 2 = held_small m n v.result h.result c.requires.0 h.ensures.1 v.ensures in
     subst (λ (l : List ℕ). Appended m l n row) (sym third)
     (appends m (appended m n row v.result h.result) n row v.result h.result c.requires.0 c.requires.1 h.ensures.0 v.ensures
-    (written m n row v.result h.result c.requires.0.room c.requires.1 c.requires.2 h.ensures.1 small))
+    (written m n row v.result h.result c.requires.0.room c.requires.1 c.told-row h.ensures.1 small))

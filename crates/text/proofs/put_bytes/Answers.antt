@@ -1,9 +1,11 @@
--- `text::put_bytes` meets its contract: the whole slice is copied.
+-- `text::put_bytes` meets its contract: the part that is copied into is written.
 -- Assumes nothing.
-use mathlib.Core.Path.{refl, ap, ◌∙◌}
-use lib.Seq.{take-length}
-use Rattle.model.specs.Bytes.{overwrite}
+use mathlib.Core.Path.{refl}
+use lib.ListN.{length}
+use Rattle.words.proofs.Std.{part-written}
 use Rattle.text.proofs.put_bytes.Goals as goal
 
 pub returns : goal.returns
-returns c = record { bytes = c.copy.ensures ∙ ap (overwrite _ _) (take-length _); next = refl }
+returns c =
+    let a = c.args in
+    record { bytes = part-written a.at (length a.bytes.now) a.out.now _ a.bytes.now c.copy_from_slice.ensures.after refl; next = refl }

@@ -1,17 +1,10 @@
--- `tracer::admitted` meets its contract: before each label the plan admits the run exactly when it admits the rest from here.
--- Assumes nothing.
-use mathlib.Core.Path.{◌≡◌, refl, sym, ap, ◌∙◌}
-use mathlib.Core.Bool.{false}
-use mathlib.Core.List.{List, ◌∷◌}
+-- Before each label the plan admits the run exactly when it admits the rest from here.
+use Rattle.std.proofs.Common.{◌≡◌, ℕ, suc, ◌<◌, List, ◌∷◌, length, get_or, drop, refl, sym, ap, ◌∙◌, add-one, false, arith, drop-cons}
 use mathlib.Core.Option.{Option, none, some}
-use Prim.Native.Nat.{ℕ, suc, ◌-◌, ◌<◌}
-use native.Mathlib.Numerals.{add-one}
-use native.Mathlib.Omega.{arith}
-use lib.ListN.{length, get_or, drop, drop_of_length-le}
-use lib.Seq.{drop-cons}
+use lib.ListN.{drop_of_length-le}
 use Rattle.model.specs.Plan.{Plan, next_in}
 use Rattle.model.specs.Schedule.{admits, admits_from}
-use Rattle.plan.specs.View.{arcs_in, next_of, StatesFit}
+use Rattle.plan.specs.View.{arcs_in, StatesFit}
 use Rattle.tracer.proofs.admitted.Invariants.{Reached}
 use Rattle.tracer.proofs.admitted.Goals as goal
 
@@ -20,39 +13,35 @@ admits-by : (P : Plan) (l : ℕ) (ls : List ℕ) (s : ℕ) (o : Option ℕ) → 
     admits_from P (l ∷ ls) s ≡ (elim o [ none ↦ false | some t ↦ admits_from P ls t ])
 admits-by P l ls s o e = ap (λ (k : Option ℕ). elim k [ none ↦ false | some t ↦ admits_from P ls t ]) e
 
-module _ (next labels : List ℕ) (state i to : ℕ) (h : Reached next labels state i) (more : i < length labels)
-    (found : next_of to ≡ next_in (arcs_in next) state (get_or labels i 0)) where
-  step : (P : Plan) → P.arcs ≡ arcs_in next →
-      admits P labels ≡ (elim (next_of to) [ none ↦ false | some t ↦ admits_from P (drop (suc i) labels) t ])
-  step P e =
+module _ (next labels : List ℕ) (state i : ℕ) (h : Reached next labels state i) (more : i < length labels) where
+  step : (o : Option ℕ) → o ≡ next_in (arcs_in next) state (get_or labels i 0) → (P : Plan) → P.arcs ≡ arcs_in next →
+      admits P labels ≡ (elim o [ none ↦ false | some t ↦ admits_from P (drop (suc i) labels) t ])
+  step o found P e =
       h.rest P e
       ∙ ap (λ (ls : List ℕ). admits_from P ls state) (drop-cons labels i 0 more)
-      ∙ admits-by P (get_or labels i 0) (drop (suc i) labels) state (next_of to) (ap (λ as'. next_in as' state (get_or labels i 0)) e ∙ sym found)
+      ∙ admits-by P (get_or labels i 0) (drop (suc i) labels) state o (ap (λ as'. next_in as' state (get_or labels i 0)) e ∙ sym found)
 
-  refused : to ≡ 0 → (P : Plan) → P.arcs ≡ arcs_in next → false ≡ admits P labels
-  refused z P e = sym (step P e ∙ ap (λ (n : ℕ). elim (next_of n) [ none ↦ false | some t ↦ admits_from P (drop (suc i) labels) t ]) z)
-
-  next-state : StatesFit next → (t : ℕ) → to ≡ suc t → Reached next labels t (suc i)
-  next-state fit t z = record {
+  next-state : StatesFit next → (t : ℕ) → some t ≡ next_in (arcs_in next) state (get_or labels i 0) → Reached next labels t (suc i)
+  next-state fit t found = record {
     inside = more;
-    fits = fit.to state (get_or labels i 0) t (sym (ap next_of (sym z) ∙ found));
-    rest = λ P e. step P e ∙ ap (λ (n : ℕ). elim (next_of n) [ none ↦ false | some t ↦ admits_from P (drop (suc i) labels) t ]) z;
+    fits = fit.to state (get_or labels i 0) t (sym found);
+    rest = step (some t) found;
   }
 
-pub loop-i-init : goal.loop-i-init
-loop-i-init c = record { inside = omega arith; fits = omega arith; rest = λ P e. refl }
+pub loop-label-init : goal.loop-label-init
+loop-label-init c = record { inside = omega arith; fits = omega arith; rest = λ P e. refl }
 
-pub returns-then-to-eq0 : goal.returns-then-to-eq0
-returns-then-to-eq0 c =
-    refused _ _ _ _ _ c.loop-i.invariant c.loop-i-test.true c.next_state-to.ensures c.if-to-eq0.true
+pub next-requires : goal.next-requires
+next-requires c = c.loop-label.invariant.fits
 
-pub loop-i-preserved : goal.loop-i-preserved
-loop-i-preserved c =
-    let n = c.next_state-to.result in
-    let more : n ≡ suc (n - 1) = let h = c.if-to-eq0.false in omega arith in
-    rw (add-one c.loop-i.i)
-    (next-state _ _ _ _ _ c.loop-i.invariant c.loop-i-test.true c.next_state-to.ensures c.requires (n - 1) more)
+pub returns-in_default : goal.returns-in_default
+returns-in_default c P e = sym (step _ _ _ _ c.loop-label.invariant c.loop-label-test.true none c.in_default.ensures P e)
+
+pub loop-label-preserved : goal.loop-label-preserved
+loop-label-preserved c =
+    rw (add-one c.loop-label.label-index)
+    (next-state _ _ _ _ c.loop-label.invariant c.loop-label-test.true c.args.machine.now.states _ c.in-Some.ensures)
 
 pub returns : goal.returns
 returns c P e =
-    sym (c.loop-i.invariant.rest P e ∙ ap (λ (ls : List ℕ). admits_from P ls c.loop-i.state) (drop_of_length-le _ c.loop-i-test.false))
+    sym (c.loop-label.invariant.rest P e ∙ ap (λ (ls : List ℕ). admits_from P ls c.loop-label.state) (drop_of_length-le _ c.loop-label-test.false))

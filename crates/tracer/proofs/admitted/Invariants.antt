@@ -1,9 +1,5 @@
--- `tracer::admitted` meets its contract: before each label the plan admits the run exactly when it admits the rest from here.
--- Assumes nothing.
-use mathlib.Core.Path.{◌≡◌}
-use mathlib.Core.List.{List}
-use Prim.Native.Nat.{ℕ, ◌-◌, ◌≤◌, ◌<◌}
-use lib.ListN.{length, drop}
+-- Before each label the plan admits the run exactly when it admits the rest from here.
+use Rattle.std.proofs.Common.{◌≡◌, ℕ, ◌≤◌, ◌<◌, List, length, drop}
 use Rattle.model.specs.Limits.{max_states}
 use Rattle.model.specs.Plan.{Plan}
 use Rattle.model.specs.Schedule.{admits, admits_from}
@@ -16,8 +12,5 @@ pub record Reached (next labels : List ℕ) (state i : ℕ) : Type 0 where
   pub fits : state < max_states
   pub rest : (P : Plan) → P.arcs ≡ arcs_in next → admits P labels ≡ admits_from P (drop i labels) state
 
-abbrev pub invariant-loop-i : goal.invariant-loop-i
-invariant-loop-i l = Reached l.next l.labels l.state l.i
-
-abbrev pub decreases-loop-i : goal.decreases-loop-i
-decreases-loop-i l = length l.labels - l.i
+abbrev pub invariant-loop-label : goal.invariant-loop-label
+invariant-loop-label l = Reached l.machine.next l.labels l.state l.label-index

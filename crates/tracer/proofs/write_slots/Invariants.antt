@@ -1,12 +1,8 @@
--- `tracer::write_slots` meets its contract: each turn writes its slot, and the rest of the trace is still to come.
--- Assumes nothing.
-use mathlib.Core.Path.{◌≡◌}
-use mathlib.Core.List.{List}
-use Prim.Native.Nat.{ℕ, ◌-◌, ◌≤◌}
-use lib.ListN.{length}
+-- Each turn writes its slot, and the rest of the trace is still to come.
+use Rattle.std.proofs.Common.{◌≡◌, ℕ, ◌≤◌, List, length}
 use Rattle.model.specs.Plan.{Plan}
 use Rattle.policy.specs.declared.Rules.{Rules}
-use Rattle.policy.specs.View.{tasks_in, jobs_of, cell_count, Cells, ran_in}
+use Rattle.policy.specs.View.{cell_number, tasks_in, jobs_of, cell_count, Cells, ran_in}
 use Rattle.tracer.proofs.Slots.{Writing}
 use Rattle.tracer.proofs.write_slots.Given as goal
 
@@ -15,10 +11,8 @@ pub record Reached (rules : Rules) (labels before now' cells : List ℕ) (ran i 
   pub held : Cells (tasks_in rules) cell_count cells
   pub inside : i ≤ length labels
   pub size : length now' ≡ length before
-  pub writing : (P : Plan) → P.tasks ≡ tasks_in rules → P.policy ≡ rules.policy → Writing P labels before now' (ran_in (tasks_in rules) ran) (jobs_of (tasks_in rules) cells) i
+  pub writing : (P : Plan) → P.tasks ≡ tasks_in rules → P.policy ≡ rules.policy →
+      Writing P labels before now' (ran_in (tasks_in rules) ran) (jobs_of (tasks_in rules) cells) i
 
 abbrev pub invariant-loop-slot : goal.invariant-loop-slot
-invariant-loop-slot l = Reached l.rules l.labels l.initial.out l.out l.cells l.ran l.slot
-
-abbrev pub decreases-loop-slot : goal.decreases-loop-slot
-decreases-loop-slot l = length l.labels - l.slot
+invariant-loop-slot l = Reached l.machine.rules l.labels l.initial.out l.out l.cells (cell_number l.ran) l.slot

@@ -1,9 +1,12 @@
--- `words::read_u16` meets its contract: the number of one byte, and of one more (`number_more`). Assumes nothing.
-use native.Mathlib.Omega.{arith}
-use Rattle.words.proofs.Words.{number-byte, number_more}
+-- `words::read_u16` meets its contract: std's number of two bytes is the model's. Assumes nothing.
+use mathlib.Core.Path.{ap, ◌∙◌}
+use lib.ListN.{length}
+use Rattle.model.specs.Bytes.{number}
+use Rattle.words.proofs.Memory.{part_length}
+use Rattle.words.proofs.Std.{be_2}
 use Rattle.words.proofs.read_u16.Goals as goal
 
 pub returns : goal.returns
 returns c =
-    let start = c.args in
-    omega (arith, number-byte start.s.now start.at (omega arith), number_more start.s.now start.at 1 (omega arith))
+    let a = c.args in
+    c.from_be_bytes.ensures ∙ be_2 c.chunk.result (ap length c.chunk.ensures ∙ part_length a.s.now a.at 2 c.requires) ∙ ap number c.chunk.ensures

@@ -1,17 +1,12 @@
--- `words::read_u32` meets its contract: the number of one byte, and of one more, three times (`number_more`). Assumes nothing.
-use native.Mathlib.Omega.{arith}
-use Rattle.words.proofs.Words.{number-byte, number_more}
+-- `words::read_u32` meets its contract: std's number of four bytes is the model's. Assumes nothing.
+use mathlib.Core.Path.{ap, ◌∙◌}
+use lib.ListN.{length}
+use Rattle.model.specs.Bytes.{number}
+use Rattle.words.proofs.Memory.{part_length}
+use Rattle.words.proofs.Std.{be_4}
 use Rattle.words.proofs.read_u32.Goals as goal
 
 pub returns : goal.returns
 returns c =
-    let start = c.args in
-    let s = start.s.now in
-    let at = start.at in
-    omega (
-      arith,
-      number-byte s at (omega arith),
-      number_more s at 1 (omega arith),
-      number_more s at 2 (omega arith),
-      number_more s at 3 (omega arith),
-    )
+    let a = c.args in
+    c.from_be_bytes.ensures ∙ be_4 c.chunk.result (ap length c.chunk.ensures ∙ part_length a.s.now a.at 4 c.requires) ∙ ap number c.chunk.ensures

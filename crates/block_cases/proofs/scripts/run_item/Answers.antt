@@ -6,7 +6,7 @@ use Rattle.block_cases.proofs.Moves.{scripted_none, scripted_more, scripted_all}
 use Rattle.block_cases.proofs.scripts.run_item.Goals as goal
 
 pub loop-k-init : goal.loop-k-init
-loop-k-init c = (omega arith, scripted_none c.args.item.now c.args.controller c.requires)
+loop-k-init c = scripted_none c.args.item.now c.args.controller.now
 
 pub nonzero_rem-at : goal.nonzero_rem-at
 nonzero_rem-at c = (standing c.args.item.now _ _ _ c.item_count-count.ensures.value c.item_total-total.ensures c.loop-k-test.true).some
@@ -31,18 +31,13 @@ pub bounds-item-at : goal.bounds-item-at
 bounds-item-at c =
     omega (arith, (standing c.args.item.now _ _ _ c.item_count-count.ensures.value c.item_total-total.ensures c.loop-k-test.true).inside)
 
-pub write_to-written-requires : goal.write_to-written-requires
-write_to-written-requires c = c.loop-k.invariant.1.part.ready
-
 pub loop-k-preserved : goal.loop-k-preserved
 loop-k-preserved c =
     let item = c.args.item.now in
-    let next = standing item _ _ _ c.item_count-count.ensures.value c.item_total-total.ensures c.loop-k-test.true in (
-      omega arith,
-      scripted_more item _ _ _ _ _ (next.read c.read_u64-byte.result c.read_u64-byte.ensures) c.loop-k.invariant.1 c.write_to-written.ensures,
-    )
+    let next = standing item _ _ _ c.item_count-count.ensures.value c.item_total-total.ensures c.loop-k-test.true in
+    scripted_more item _ _ _ _ _ _ _ (next.read c.read_u64-byte.result c.read_u64-byte.ensures) c.loop-k.invariant c.write-told.ensures
 
 pub returns : goal.returns
 returns c =
     let item = c.args.item.now in
-    scripted_all item _ c.loop-k.k (item_total item) _ (omega (arith, c.item_total-total.ensures)) c.loop-k.invariant.1
+    scripted_all item _ c.loop-k.k (item_total item) _ _ (omega (arith, c.item_total-total.ensures)) c.loop-k.invariant

@@ -10,8 +10,8 @@ use Rattle.block_cases.proofs.scripts.write_item.Goals as goal
 pub put_line-n-requires : goal.put_line-n-requires
 put_line-n-requires c =
     let k = c.registers-bytes in
-    let w = c.run_item-written in
-    omega (arith, script_line _ _ w.result k.result w.ensures (λ i. (elem_Fits w8 w8 k.result _ i k.type_inv.1.1 tt).fits) k.type_inv.1.0.1)
+    let w = c.run_item-told in
+    omega (arith, script_line _ _ _ _ k.result w.ensures (λ i. (elem_Fits w8 w8 k.result _ i k.type_inv.1.1 tt).fits) k.type_inv.1.0.1)
 
 pub slice_bounds-line-end : goal.slice_bounds-line-end
 slice_bounds-line-end c = (put-inside _ _ _ _ c.put_line-n.ensures).0

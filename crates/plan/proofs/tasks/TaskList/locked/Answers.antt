@@ -1,0 +1,11 @@
+-- `plan::tasks::TaskList::locked` meets its contract: the store is of the same task, locked.
+-- Assumes nothing.
+use mathlib.Core.Path.{refl}
+use native.Mathlib.Omega.{arith}
+use Rattle.plan.proofs.View.{lock-stored}
+use Rattle.plan.proofs.tasks.TaskList.locked.Goals as goal
+
+pub returns : goal.returns
+returns c =
+    let s = c.args.self in
+    lock-stored s.list s.count c.args.i _ c.requires (omega (arith, c.requires, s.room, s.fits)) refl
