@@ -60,9 +60,10 @@ pub struct Begun {
 fn label_work(tasks: &TaskList, label: u8) -> u16
     ensures { result ≡ label_work (list_of tasks.now) label }
 {
+    let given = tasks.as_slice();
     let mut work = 0;
     for i in 0..Node::MAX_TASKS {
-        work += u16::from(policy::new_work(tasks, label, i));
+        work += u16::from(policy::new_work(given, label, i));
     }
     work
 }

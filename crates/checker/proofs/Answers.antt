@@ -16,7 +16,7 @@ use Rattle.model.specs.Plan.{Plan, IsSound, read_plan, sound}
 use Rattle.model.specs.Refusals.{too_many_nodes, short_memory}
 use Rattle.theory.proofs.Claim.{check-claim}
 use Rattle.plan.specs.View.{plan_of}
-use Rattle.plan.specs.declared.Plan as plan
+use Rattle.plan.specs.declared.tasks.Plan as plan
 use Rattle.machine.specs.Machine.{MachineOf}
 use Rattle.machine.specs.declared.Machine.{Machine}
 use Rattle.graph.specs.View.{Planned}

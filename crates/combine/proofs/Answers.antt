@@ -21,7 +21,7 @@ use Rattle.model.proofs.Calls.{room-short, by_plan}
 use Rattle.model.specs.Combine.{Pair, starts, same_pair, pairs_next, pairs, many_pairs, numbered_next, combined, same_task, combine_in, combine, AdmitsBoth}
 use Rattle.theory.proofs.Combined.{combine-admits, combine-many}
 use Rattle.plan.specs.declared.Fault.TheVariants.{OutOfRange}
-use Rattle.plan.specs.declared.Plan.{Plan}
+use Rattle.plan.specs.declared.tasks.Plan.{Plan}
 use Rattle.plan.specs.View.{list_of, arcs_in, plan_of}
 use Rattle.plan.proofs.View.{tasks-size}
 use Rattle.refusals.specs.declared.Refusal as refusal
@@ -68,7 +68,7 @@ module _ (p q : Plan) (before : List ℕ) where
     module _ (r : Automaton) (is : o ≡ Some r) where
       -- the first plan with the product's table in place of its own
       abbrev replaced : Plan
-      replaced = record { tasks = p.tasks; policy = p.policy; states = r.states; next = r.next }
+      replaced = record { tasks = p.tasks; policy = p.policy; states = r.states; next = r.next; spare = p.spare }
 
       abbrev automaton : List Pair → ℕ → List model.Arc
       automaton us count = arcs_of (length us) count (numbered_next (arcs_in p.next) (arcs_in q.next) us)

@@ -2,7 +2,7 @@
 -- Assumes nothing.
 use Rattle.std.proofs.Common.{◌≡◌, [], sym, ap, ◌∙◌, subst, arith}
 use Rattle.plan.specs.View.{plan_of, arcs_in}
-use Rattle.plan.specs.declared.Plan.{Plan}
+use Rattle.plan.specs.declared.tasks.Plan.{Plan}
 use Rattle.policy.specs.View.{Tasks, cell_count, tasks_in}
 use Rattle.policy.specs.declared.Rules.{Rules}
 use Rattle.policy.proofs.Cells.{empty-jobs, empty-cells}

@@ -17,7 +17,7 @@ use Rattle.model.specs.Convert.{forth, says, back_of, back, Converted, CarriesOv
 use Rattle.model.proofs.Calls.{room-short, by_plan, refused-due}
 use Rattle.words.proofs.Numbers.{AreBytes}
 use Rattle.theory.proofs.Converted.{forth_converted, forth-carries, back_converted, back-unsaid}
-use Rattle.plan.specs.declared.Plan.{Plan}
+use Rattle.plan.specs.declared.tasks.Plan.{Plan}
 use Rattle.plan.specs.View.{plan_of}
 use Rattle.refusals.specs.declared.Refusal.TheVariants.{NotInFirst}
 use Rattle.std.specs.Prelude.{Ok, Err}

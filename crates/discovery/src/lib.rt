@@ -105,7 +105,7 @@ fn explore_label(
     ensures explored { Explored machine.now.rules (λ P. edges_to P (node_of (tasks_in machine.now.rules) node.now) label (some state)) m.old n m.new result }
     ensures notes_free { NotesFree notes.old notes.new }
 {
-    let noted = graph::reach(machine, node, label, None, notes);
+    let noted = graph::reach(&machine.rules, node, label, None, notes);
     let done = noted.done;
     let cells = done.cells;
     add_outcomes(m, n, notes, noted.count, cells, state)

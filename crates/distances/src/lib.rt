@@ -125,7 +125,7 @@ fn relax_label(
     let Some(state) = machine.next(source.node.state, source.label) else {
         return Ok(false);
     };
-    let noted = graph::reach(machine, &source.node, source.label, None, notes);
+    let noted = graph::reach(&machine.rules, &source.node, source.label, None, notes);
     let done = noted.done;
     let cells = done.cells;
     let out = Outcomes {

@@ -20,7 +20,7 @@ use Rattle.model.proofs.Calls.{room-short, by_plan}
 use Rattle.model.proofs.Plan.{between-below, between-above, between-inside}
 use Rattle.theory.proofs.Gaps.{group_gap_has}
 use Rattle.theory.proofs.Groups.{same-tasks}
-use Rattle.plan.specs.declared.Plan.{Plan}
+use Rattle.plan.specs.declared.tasks.Plan.{Plan}
 use Rattle.plan.specs.View.{plan_of}
 use Rattle.plan.proofs.View.{tasks-size}
 use Rattle.refusals.specs.declared.Refusal.TheVariants.{BadGap}

@@ -20,7 +20,7 @@ use Rattle.model.proofs.Lists.{get_or-table}
 use Rattle.model.proofs.Runs.{ones-counted}
 use Rattle.theory.proofs.Bits.{bit_past, bit-and, ones-sum}
 use Rattle.theory.proofs.Sums.{sum_same, sum_past}
-use Rattle.plan.specs.declared.Plan.{Plan}
+use Rattle.plan.specs.declared.tasks.Plan.{Plan}
 use Rattle.plan.specs.View.{list_of, label_count, pair_count, arcs_in, next_of, entry_of, plan_of}
 use Rattle.plan.proofs.View.{tasks-size, pair_state, pair_label}
 use Rattle.plan.proofs.Arcs.{table-arcs}
@@ -112,7 +112,7 @@ gap_arcs a f table e =
 module _ (p : Plan) (set slots : ℕ) (table : List ℕ) (e : table ≡ map (pair_entry (record { tasks = p.tasks; set = set; slots = slots })) (up_from 0 pair_count)) where
   -- the plan with the table in place of its own
   abbrev pub replaced : Plan
-  replaced = record { tasks = p.tasks; policy = p.policy; states = slots; next = table }
+  replaced = record { tasks = p.tasks; policy = p.policy; states = slots; next = table; spare = p.spare }
 
   pub replaced-plan : 1 ≤ slots → slots ≤ max_gap → plan_of replaced ≡ gap_plan (plan_of p) (in_group (task_set set)) slots
   unfolding gap_plan

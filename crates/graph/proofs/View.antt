@@ -8,7 +8,7 @@ use Rattle.model.specs.Graph as model
 use Rattle.model.specs.Plan.{IsSound}
 use Rattle.model.specs.Slot.{Job}
 use Rattle.plan.specs.View.{plan_of}
-use Rattle.plan.specs.declared.Plan.{Plan}
+use Rattle.plan.specs.declared.tasks.Plan.{Plan}
 use Rattle.policy.specs.View.{Tasks, cell_count, Cells, RulesOf}
 use Rattle.policy.specs.declared.Rules.{Rules}
 use Rattle.policy.proofs.Canonical.{view_injective}

@@ -8,7 +8,7 @@ ghost use Rattle.model.specs.Masks.{mask_count, mask_table};
 ghost use Rattle.words.specs.Packed.{field_base, unpacked};
 ghost use Rattle.plan.specs.View.{task_view, TableFits};
 ghost use Rattle.masks.specs.Clear.{Lists};
-ghost use Rattle.policy.specs.View.{cell_count, Cells, tasks_in, InRange};
+ghost use Rattle.policy.specs.View.{cell_count, Cells, tasks_in, InRange, Ruled};
 ghost use Rattle.graph.specs.Outcomes.{pattern_count, outcomes, outcome_in, lists_at, list_place, note_room, masks_in, pattern_in, notes_in, with_masks, Room, Noting, Cleared};
 ghost use Rattle.graph.specs.Offers.{span_of, masks_offered, OffersFit, OffersOf, offered, Carries};
 ghost use Rattle.graph.specs.Choice.{chosen_with, choice_of, led_of, LeadFits, fits_task, all_zero};
@@ -20,7 +20,7 @@ ghost use Rattle.graph.specs.declared.Span.TheVariants.{Runs};
 use machine::Machine;
 use node::Node;
 use plan::Task;
-use policy::Done;
+use policy::{Done, Rules};
 
 const MAX_TASKS: usize = Node::MAX_TASKS;
 
@@ -100,17 +100,18 @@ fn span_of(task: Task, released: bool) -> Span
 }
 
 // What a label offers.
-fn offers_of(machine: &Machine, label: u8, wanted: Option<u16>) -> Offers
-    ensures { OffersOf (tasks_in machine.now.rules) label wanted result }
+fn offers_of(rules: &Rules, label: u8, wanted: Option<u16>) -> Offers
+    requires { Ruled rules.now }
+    ensures { OffersOf (tasks_in rules.now) label wanted result }
 {
-    let count = machine.rules.tasks.count;
+    let count = rules.tasks.count;
     let none = Offer {
         span: Span::Table { at: 0, end: 0 },
         value: 0,
     };
     let mut offers = [none; MAX_TASKS];
     for i in 0..count {
-        let task = machine.rules.tasks.get(i);
+        let task = rules.tasks.get(i);
         let span = span_of(task, is_released(label, i));
         offers[i] = Offer {
             span,
@@ -260,17 +261,18 @@ pub fn noted_pattern(notes: &[u32; NOTE_ROOM], count: usize, k: usize) -> u16
 
 // Notes the outcomes of a label's choices from a pattern of taken slots; so many patterns are noted.
 fn note_choices(
-    machine: &Machine,
+    rules: &Rules,
     taken: u16,
     label: u8,
     wanted: Option<u16>,
     notes: &mut [u32; NOTE_ROOM],
 ) -> usize
-    requires { (taken < mask_count) × Room notes.old 0 }
-    ensures { Noting (wanted_in wanted) (outcomes (tasks_in machine.now.rules) label taken) lists_at notes.old 0 notes.new result }
+    requires ruled { Ruled rules.now }
+    requires room { (taken < mask_count) × Room notes.old 0 }
+    ensures { Noting (wanted_in wanted) (outcomes (tasks_in rules.now) label taken) lists_at notes.old 0 notes.new result }
 {
     let table = masks::table();
-    let offers = offers_of(machine, label, wanted);
+    let offers = offers_of(rules, label, wanted);
     note_task(&table, &offers, 0, taken as u32, 0, 0, notes, 0)
 }
 
@@ -283,18 +285,19 @@ pub struct Noted {
 
 // Notes where the label's choices lead from a node, beside the policy's slot, with the masks of the wanted pattern, if one is.
 pub fn reach(
-    machine: &Machine,
+    rules: &Rules,
     node: &Node,
     label: u8,
     wanted: Option<u16>,
     notes: &mut [u32; NOTE_ROOM],
 ) -> Noted
-    requires { Cells (tasks_in machine.now.rules) cell_count node.now.cells × (node.now.taken < mask_count) }
-    ensures { Reaches machine.now.rules node.now label (wanted_in wanted) notes.old notes.new result }
+    requires ruled { Ruled rules.now }
+    requires node { Cells (tasks_in rules.now) cell_count node.now.cells × (node.now.taken < mask_count) }
+    ensures { Reaches rules.now node.now label (wanted_in wanted) notes.old notes.new result }
 {
-    let done = policy::slot(&machine.rules, &node.cells, label);
+    let done = policy::slot(rules, &node.cells, label);
     clear_notes(notes);
-    let count = note_choices(machine, node.taken, label, wanted, notes);
+    let count = note_choices(rules, node.taken, label, wanted, notes);
     Noted { done, count }
 }
 

@@ -1,6 +1,6 @@
 -- The machine of a plan.
 use Rattle.std.specs.Prelude.{◌≡◌}
-use Rattle.plan.specs.declared.Plan.{Plan}
+use Rattle.plan.specs.declared.tasks.Plan.{Plan}
 use Rattle.policy.specs.View.{RulesOf}
 use Rattle.machine.specs.declared.Machine.{Machine}
 

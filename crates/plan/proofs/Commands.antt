@@ -17,12 +17,10 @@ use Rattle.model.specs.Limits.{max_tasks, max_states}
 use Rattle.model.specs.Plan as model
 use Rattle.model.specs.Plan.{Arc, lock_at, any_locked, is_zero, between, may_follow, in_range}
 use Rattle.model.proofs.Plan.{Passes, both, fault-none, task_follows, arc_ranged, lock-ranged}
-use Rattle.plan.specs.declared.Fault.{Fault}
-use Rattle.plan.specs.declared.Fault.TheVariants.{OutOfRange}
 use Rattle.plan.specs.declared.Command.{Command}
 use Rattle.plan.specs.declared.Reading.{Reading}
 use Rattle.plan.specs.declared.tasks.TaskList.{TaskList}
-use Rattle.plan.specs.View.{list_of, command_number, given_in, reading_of, arcs_in, label_count, pair_count, Within, Readable, Reads}
+use Rattle.plan.specs.View.{list_of, command_number, given_in, reading_of, arcs_in, label_count, pair_count, Bare, Within, Readable, Reads}
 use Rattle.plan.proofs.View.{tasks-size, locks-task, locks-lock, lock-rises, label-low, least-rises, arc_of, arcs-add, holds-add, pair_state, pair_label}
 
 pub states-few : (r : Reading) → Within r → given_in r.states ≤ max_states
@@ -76,13 +74,14 @@ module _ (r : Reading) (next : List ℕ) (x y z : ℕ) where
   pub room-left : Readable r next 1 x y z → r.tasks.count < max_tasks
   room-left h = let k = task_follows _ 1 refl (passes 1 h).follows in omega (arith, k, tasks-size r.tasks)
 
-  pub task-read : (h : Readable r next 1 x y z) (t : TaskList) → list_of t ≡ list_of r.tasks ++ (record { work = x; window = y; value = z; locked = false } ∷ []) →
+  pub task-read : (h : Readable r next 1 x y z) (t : TaskList) → list_of t ≡ list_of r.tasks ++ (record { work = x; window = y; value = z; locked = false } ∷ []) → (Bare r.tasks → Bare t) →
       Reads r (record { tasks = t; lock = r.lock; policy = r.policy; states = r.states; least = r.least; ended = r.ended }) next next 1 x y z
   unfolding model.after
-  task-read h t e =
+  task-read h t e b =
       let w = h.within in
       record {
         within = record {
+          bare = b w.bare;
           locks = λ from. (λ i. any_locked (drop from (e i))) ∙ locks-task (list_of r.tasks) _ refl from ∙ w.locks from;
           states = w.states;
           some = w.some;
@@ -102,6 +101,7 @@ module _ (r : Reading) (next : List ℕ) (x y z : ℕ) where
       let w = h.within in
       record {
         within = record {
+          bare = w.bare;
           locks = w.locks;
           states = w.states;
           some = λ p q. subst (λ (k : ℕ). 1 ≤ k) (some-same x p q) (policy-some h.edition _ 2 x y z refl (passes 2 h).ranged);
@@ -123,6 +123,7 @@ module _ (r : Reading) (next : List ℕ) (x y z : ℕ) where
       let t = states-between h.edition _ 3 x y z refl p.ranged in
       record {
         within = record {
+          bare = w.bare;
           locks = w.locks;
           states = λ m q. subst (λ (k : ℕ). (1 ≤ k) × (k ≤ max_states)) (some-same x m q) t;
           some = w.some;
@@ -141,7 +142,7 @@ module _ (r : Reading) (next : List ℕ) (x y z : ℕ) where
   end-read h =
       let w = h.within in
       record {
-        within = record { locks = w.locks; states = w.states; some = w.some; policy = w.policy; end = λ e. given r.states (end-follows _ 5 refl (passes 5 h).follows) };
+        within = record { bare = w.bare; locks = w.locks; states = w.states; some = w.some; policy = w.policy; end = λ e. given r.states (end-follows _ 5 refl (passes 5 h).follows) };
         holds = h.holds;
         reading = refl;
       }
@@ -154,16 +155,17 @@ module _ (r : Reading) (next : List ℕ) (x y z : ℕ) where
   pub lock-above : Readable r next 9 x y z → r.lock < x
   lock-above h = ltb-true _ _ (sym (lock-rises r h.within x (lock-there h).0) ∙ (passes 9 h).above)
 
-  pub lock-read : (h : Readable r next 9 x y z) (t : TaskList) → list_of t ≡ lock_at (list_of r.tasks) (x - 1) →
+  pub lock-read : (h : Readable r next 9 x y z) (t : TaskList) → list_of t ≡ lock_at (list_of r.tasks) (x - 1) → (Bare r.tasks → Bare t) →
       Reads r (record { tasks = t; lock = x; policy = r.policy; states = r.states; least = r.least; ended = r.ended }) next next 9 x y z
   unfolding model.after
-  lock-read h t e =
+  lock-read h t e b =
       let w = h.within in
       let there = lock-there h in
       let above = lock-above h in
       let number : suc (x - 1) ≡ x = omega arith in
       record {
         within = record {
+          bare = b w.bare;
           locks = λ from.
               (λ i. any_locked (drop from (e i)))
               ∙ locks-lock (list_of r.tasks) (x - 1) (omega (arith, there, tasks-size r.tasks)) (λ k g. w.locks k ∙ le-ltb k r.lock (omega (arith, above))) from
@@ -211,7 +213,7 @@ module _ (r : Reading) (next : List ℕ) (x y z : ℕ) where
         ∙ arcs-add next r.least k z h.holds arc-above arc-place
         ∙ ap (λ (a : Arc). arcs_in next ++ (a ∷ [])) arc-of-pair in
         record {
-          within = record { locks = w.locks; states = w.states; some = w.some; policy = w.policy; end = w.end };
+          within = record { bare = w.bare; locks = w.locks; states = w.states; some = w.some; policy = w.policy; end = w.end };
           holds = rw (add-one z, add-one k) (holds-add next r.least k z h.holds arc-above arc-place);
           reading = λ i. record { tasks = list_of r.tasks; policy = given_in r.policy; states = given_in r.states; arcs = arcs i; ended = (passes 4 h).going i };
         }

@@ -19,7 +19,7 @@ use Rattle.model.specs.Plan as model
 use Rattle.model.proofs.Plan.{fault-none, read_from-cons, read_from-nil, width-pos}
 use Rattle.model.proofs.Lists.{get_d_default}
 use Rattle.plan.specs.declared.Operation.{Operation}
-use Rattle.plan.specs.declared.Plan.{Plan}
+use Rattle.plan.specs.declared.tasks.Plan.{Plan}
 use Rattle.plan.specs.declared.Reading.{Reading}
 use Rattle.plan.specs.declared.Fault.{Fault}
 use Rattle.plan.specs.declared.Fault.TheVariants.{BytesEnd, UnknownCommand, OutOfPlace, OutOfRange}
@@ -53,6 +53,7 @@ empty_holds = record {
 module _ (r : Reading) (n : NothingRead r) where
   nothing-within : Within r
   nothing-within = record {
+    bare = n.bare;
     locks = λ from. (λ i. model.any_locked (drop from (n.tasks i))) ∙ ap model.any_locked (drop-nil from) ∙ sym (ltb-zero from (omega (arith, n.lock)));
     states = λ m e. absurd (none_given m (sym n.states ∙ e));
     some = λ p e. absurd (none_given p (sym n.policy ∙ e));

@@ -18,7 +18,7 @@ use Rattle.model.specs.Plan as model
 use Rattle.model.specs.Plan.{Arc, next_in, with_lock, lock_at, any_locked, rising, pair_below, lock_rises, rises, unknown, width, may_follow, arc_in_range, in_range, first_fault, fault}
 use Rattle.model.proofs.Plan.{rising-last, ranged-first, lock-ranged, arc_ranged, or_else, or_else-none, next-append}
 use Rattle.std.specs.Prelude as rust
-use Rattle.plan.specs.declared.Plan.{Plan}
+use Rattle.plan.specs.declared.tasks.Plan.{Plan}
 use Rattle.plan.specs.declared.Fault.{Fault}
 use Rattle.plan.specs.declared.Reading.{Reading}
 use Rattle.plan.specs.declared.tasks.Task.{Task}

@@ -11,7 +11,7 @@ use Rattle.std.specs.Prelude.{Ok, Err, None, Some, ◌≢◌}
 pub use Rattle.plan.specs.Tasks.{empty_task, task_view}
 use Rattle.plan.specs.declared.tasks.Task.{Task}
 use Rattle.plan.specs.declared.tasks.TaskList.{TaskList}
-use Rattle.plan.specs.declared.Plan.{Plan}
+use Rattle.plan.specs.declared.tasks.Plan.{Plan}
 use Rattle.plan.specs.declared.Command.{Command}
 use Rattle.plan.specs.declared.Command.TheVariants as command
 use Rattle.plan.specs.declared.Operation.{Operation}
@@ -44,6 +44,10 @@ tasks_of ts n = map task_view (take n ts)
 
 abbrev pub list_of : TaskList → List model.Task
 list_of t = tasks_of t.list t.count
+
+-- nothing stands past the tasks given
+abbrev pub Bare : TaskList → Type 0
+Bare t = (k : ℕ) → t.count ≤ k → get_or t.list k empty_task ≡ empty_task
 
 -- the labels of a state, and all pairs of a state and a label
 abbrev pub label_count : ℕ
@@ -99,6 +103,7 @@ reading_of r arcs = record { tasks = list_of r.tasks; policy = given_in r.policy
 -- before the first command
 pub record NothingRead (r : Reading) : Type 0 where
   pub tasks : list_of r.tasks ≡ []
+  pub bare : Bare r.tasks
   pub lock : r.lock ≡ 0
   pub policy : r.policy ≡ None
   pub states : r.states ≡ None
@@ -135,9 +140,10 @@ abbrev pub answer_of : rust.Result Plan Fault → model.PlanAnswer
 answer_of (Ok p) = model.sound (plan_of p)
 answer_of (Err f) = model.faulty (fault_number f)
 
--- tasks from a place on are locked where the last lock is above it; the states are within their limit, no policy is 0, it is given before them, and
+-- nothing stands past the tasks; those from a place on are locked where the last lock is above it; the states are within their limit, no policy is 0, it is given before them, and
 -- they before the end
 pub record Within (r : Reading) : Type 0 where
+  pub bare : Bare r.tasks
   pub locks : (from : ℕ) → model.any_locked (drop from (list_of r.tasks)) ≡ ltb from r.lock
   pub states : (m : ℕ) → r.states ≡ Some m → (1 ≤ m) × (m ≤ max_states)
   pub some : (p : ℕ) → r.policy ≡ Some p → 1 ≤ p

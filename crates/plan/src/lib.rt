@@ -1,7 +1,7 @@
 // The plan reader: plan bytes in, the plan as a struct by value out, or the fault.
 #![tactic(auto)]
 
-mod tasks; // tasks.rt: a plan's tasks
+mod tasks; // tasks.rt: a plan, and its tasks
 
 ghost use Rattle.std.specs.Prelude.{◌≡◌, ℕ, ◌+◌, ◌*◌, ◌^◌, ◌<◌, ◌≤◌, [], get_or, map, ◌⊎◌, true, false, MatchResult};
 ghost use Rattle.model.specs.Bytes.{number};
@@ -13,7 +13,7 @@ ghost use Rattle.model.specs.Limits.{max_states};
 ghost use Rattle.plan.specs.View.{fault_number, command_number, answer_of, reading_of, NothingRead, empty_table, arcs_in, label_count, rises_in, fault_here, Legible, IsOperation, Within, Readable, Reads};
 
 use node::{Edition, Node};
-pub use tasks::{Task, TaskList};
+pub use tasks::{Plan, Task, TaskList};
 
 const MAX_TASKS: usize = Node::MAX_TASKS;
 
@@ -23,16 +23,6 @@ const MAX_STATES: u8 = Node::MAX_STATES as u8;
 pub const LABELS: usize = 1 << MAX_TASKS;
 
 pub const PAIRS: usize = Node::MAX_STATES * LABELS;
-
-// A sound plan: the tasks, the policy, the number of states, and for the state S and the label L, at 16 S + L, the next state and 1, or 0 where
-// the label is not admitted. The policy is a number, since `plan_bytes::write_in` writes a plan with any.
-#[derive(Clone, Copy)]
-pub struct Plan {
-    pub tasks: TaskList,
-    pub policy: u8,
-    pub states: u8,
-    pub next: [u8; PAIRS],
-}
 
 // Faults of a plan: bytes that end too early, an unknown command, a command out of place, an operand
 // out of range.

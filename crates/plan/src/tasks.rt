@@ -1,8 +1,9 @@
-// A plan's tasks.
+// A plan, and its tasks.
 ghost use Rattle.std.specs.Prelude.{◌≡◌, ℕ, ◌≤◌, length, get_or};
 ghost use Rattle.model.specs.Limits.{max_tasks};
 ghost use Rattle.plan.specs.Tasks.{empty_task};
 
+use super::PAIRS;
 use node::Node;
 
 const MAX_TASKS: usize = Node::MAX_TASKS;
@@ -25,14 +26,13 @@ impl Task {
     };
 }
 
-// The first `count` tasks are given, and nothing stands past them.
+// The first `count` tasks are given.
 #[derive(Clone, Copy)]
 pub struct TaskList {
     pub list: [Task; MAX_TASKS],
     pub count: usize,
     pub ghost room: { length list ≡ max_tasks },
     pub ghost fits: { count ≤ max_tasks },
-    pub ghost spare: { (k : ℕ) → count ≤ k → get_or list k empty_task ≡ empty_task },
 }
 
 impl TaskList {
@@ -41,11 +41,12 @@ impl TaskList {
     ghost use Rattle.model.specs.Plan.{lock_at};
     ghost use Rattle.model.specs.Slot.{no_task};
     ghost use Rattle.plan.specs.Tasks.{task_view};
-    ghost use Rattle.plan.specs.View.{list_of};
+    ghost use Rattle.plan.specs.View.{list_of, Bare};
 
     // No task.
     pub fn none() -> TaskList
-        ensures { list_of result ≡ [] }
+        ensures list { list_of result ≡ [] }
+        ensures bare { Bare result }
     {
         TaskList {
             list: [Task::NONE; MAX_TASKS],
@@ -56,7 +57,8 @@ impl TaskList {
     // One task more.
     pub fn with(self, task: Task) -> TaskList
         requires { self.count < max_tasks }
-        ensures { list_of result ≡ list_of self ++ task_view task ∷ [] }
+        ensures list { list_of result ≡ list_of self ++ task_view task ∷ [] }
+        ensures bare { Bare self → Bare result }
     {
         let mut tasks = self;
         tasks.list[self.count] = task;
@@ -67,7 +69,8 @@ impl TaskList {
     // The task at i, from 0, is locked.
     pub fn locked(self, i: usize) -> TaskList
         requires { i < self.count }
-        ensures { list_of result ≡ lock_at (list_of self) i }
+        ensures list { list_of result ≡ lock_at (list_of self) i }
+        ensures bare { Bare self → Bare result }
     {
         let mut tasks = self;
         tasks.list[i].locked = true;
@@ -98,4 +101,15 @@ impl TaskList {
     {
         1 << self.count
     }
+}
+
+// A sound plan: the tasks, the policy, the number of states, and for the state S and the label L, at 16 S + L, the next state and 1, or 0 where
+// the label is not admitted. Nothing stands past the tasks. The policy is a number, since `plan_bytes::write_in` writes a plan with any.
+#[derive(Clone, Copy)]
+pub struct Plan {
+    pub tasks: TaskList,
+    pub policy: u8,
+    pub states: u8,
+    pub next: [u8; PAIRS],
+    pub ghost spare: { (k : ℕ) → tasks.count ≤ k → get_or tasks.list k empty_task ≡ empty_task },
 }

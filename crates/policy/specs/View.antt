@@ -9,7 +9,7 @@ use Rattle.model.specs.Slot.{Job, JobId, no_task, edf, srt, fifo}
 use Rattle.std.specs.Prelude as rust
 use Rattle.std.specs.Prelude.{None, Some}
 use Rattle.plan.specs.View.{list_of}
-use Rattle.plan.specs.declared.Plan.{Plan}
+use Rattle.plan.specs.declared.tasks.Plan.{Plan}
 use Rattle.policy.specs.declared.Rules.{Rules}
 use Rattle.policy.specs.declared.Done.{Done}
 use Rattle.policy.specs.declared.Policy.{Policy}

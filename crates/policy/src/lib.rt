@@ -2,7 +2,7 @@
 // task i is at (MAX_WINDOW - 1 - a) * MAX_TASKS + i - 1 and holds the work remaining, 0 for no job.
 #![tactic(auto)]
 
-ghost use Rattle.std.specs.Prelude.{◌≡◌, cond, [], ◌++◌, ◌<◌, eqb, ltb, get_or, replicate, IfSome};
+ghost use Rattle.std.specs.Prelude.{◌≡◌, cond, [], ◌++◌, ◌<◌, eqb, ltb, get_or, map, replicate, IfSome};
 ghost use Rattle.model.specs.Limits.{max_tasks};
 ghost use Rattle.model.specs.Plan.{IsSound};
 ghost use Rattle.plan.specs.View.{task_view, list_of, plan_of};
@@ -20,7 +20,8 @@ pub const CELLS: usize = Node::CELLS;
 
 pub const SLOT_CELLS: usize = MAX_TASKS * MAX_WINDOW;
 
-// The cells of a row, which are of one age.
+// The cells of a row, which are of one age. What is cast to u8 here is a place, a task or a number of slots, all below 64; TryFrom would leave
+// a refusal that never comes.
 const ROW: u8 = MAX_TASKS as u8;
 
 // The parts of a key are below these: a task, slots left or work, a cell.
@@ -143,14 +144,14 @@ pub fn no_jobs() -> [u8; CELLS]
 }
 
 // The work of a new job of the task at i, 0 where the label has none.
-pub fn new_work(tasks: &TaskList, label: u8, i: usize) -> u8
+pub fn new_work(tasks: &[Task], label: u8, i: usize) -> u8
     requires { i < max_tasks }
-    ensures { result ≡ new_work (list_of tasks.now) label i }
+    ensures { result ≡ new_work (map task_view tasks.now) label i }
 {
     if (label >> i) % 2 == 0 {
         return 0;
     }
-    task_in(tasks, i).work
+    if i < tasks.len() { tasks[i].work } else { 0 }
 }
 
 // The cells with room for new jobs.
@@ -166,9 +167,10 @@ fn widen(cells: &[u8; CELLS]) -> [u8; SLOT_CELLS]
 fn join(tasks: &TaskList, cells: &[u8; CELLS], label: u8) -> [u8; SLOT_CELLS]
     ensures { result ≡ joined_cells (list_of tasks.now) cells.now label }
 {
+    let given = tasks.as_slice();
     let mut joined = widen(cells);
     for i in 0..MAX_TASKS {
-        joined[CELLS + i] = new_work(tasks, label, i);
+        joined[CELLS + i] = new_work(given, label, i);
     }
     joined
 }

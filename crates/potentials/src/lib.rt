@@ -97,7 +97,7 @@ fn label_holds(
     let Some(state) = machine.next(node.state, from.label) else {
         return true;
     };
-    let noted = graph::reach(machine, &node, from.label, None, notes);
+    let noted = graph::reach(&machine.rules, &node, from.label, None, notes);
     let weight = times(claim.fraction.q, u32::from(noted.done.gain));
     let high = certificate::potential(s, from.number) + weight;
     outcomes_hold(claim, s, notes, m, &noted, state, high)

@@ -33,7 +33,7 @@ fn attained(
     requires { Circled machine.now.rules m.now steps × (links_end ≤ length m.now) }
     ensures { (P : Plan) (next : List ℕ) (claim : Claim) → Circling P machine.now.rules next m.now claim steps → Lowers P claim m.now steps result }
 {
-    let sums = circuit::gains(machine, steps, notes, m);
+    let sums = circuit::gains(&machine.rules, steps, notes, m);
     Fraction::lowest(sums.kept, sums.ideal)
 }
 

@@ -22,7 +22,7 @@ use Rattle.theory.proofs.Accepted.{accepted-iff}
 use Rattle.theory.proofs.Claim.{check-claim}
 use Rattle.words.proofs.Memory.{overwrite-first}
 use Rattle.plan.specs.View.{plan_of}
-use Rattle.plan.specs.declared.Plan as plan
+use Rattle.plan.specs.declared.tasks.Plan as plan
 use Rattle.machine.specs.Machine.{MachineOf}
 use Rattle.machine.specs.declared.Machine.{Machine}
 use Rattle.graph.specs.View.{Planned}

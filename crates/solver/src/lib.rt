@@ -43,7 +43,7 @@ fn solve_nodes(
     ensures only { Only links_at (links_size + steps_size) m.old m.new }
 {
     let solution = solution::least(machine, n, notes, m);
-    let bytes = writer::write(machine, n, solution, notes, m, out);
+    let bytes = writer::write(&machine.rules, n, solution, notes, m, out);
     Solved {
         bytes,
         passes: solution.passes,

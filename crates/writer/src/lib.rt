@@ -7,12 +7,13 @@ ghost use Rattle.model.specs.Graph.{Edge};
 ghost use Rattle.model.specs.Limits.{max_nodes, certificate_room};
 ghost use Rattle.model.specs.Plan.{Plan};
 ghost use Rattle.certificate.specs.View.{head_size, potential_size, cycle_size, step_size};
+ghost use Rattle.policy.specs.View.{Ruled};
 ghost use Rattle.links.specs.Links.{links_end};
 ghost use Rattle.circuit.specs.Circuit.{Turns, Turning};
 ghost use Rattle.solution.specs.Solution.{Solving};
 ghost use Rattle.writer.specs.Writer.{distances_in, potentials_bytes, WritesCycle, Writable, Written};
 
-use machine::Machine;
+use policy::Rules;
 use solution::Solution;
 
 // Writes the distances of the first n nodes as potentials.
@@ -28,35 +29,37 @@ fn write_potentials(n: usize, m: &[u8], out: &mut [u8])
 
 // Writes the node and the steps of a cycle of k steps from the place `at` on, and gives the place after them.
 fn write_cycle(
-    machine: &Machine,
+    rules: &Rules,
     k: usize,
     notes: &mut [u32; graph::NOTE_ROOM],
     m: &[u8],
     out: &mut [u8],
     at: usize,
 ) -> usize
-    requires { Turning machine.now.rules m.now k × (0 < k) × (at + cycle_size + step_size * k ≤ length out.old) }
+    requires ruled { Ruled rules.now }
+    requires turning { Turning rules.now m.now k × (0 < k) × (at + cycle_size + step_size * k ≤ length out.old) }
     ensures value { result ≡ at + cycle_size + step_size * k }
-    ensures writes_cycle { (P : Plan) (next : List ℕ) (n v : ℕ) (es : List Edge) → Turns P machine.now.rules next m.now n k v es → WritesCycle P m.now k v out.old at out.new }
+    ensures writes_cycle { (P : Plan) (next : List ℕ) (n v : ℕ) (es : List Edge) → Turns P rules.now next m.now n k v es → WritesCycle P m.now k v out.old at out.new }
 {
     let first = links::step_at(m, 0);
     certificate_bytes::write_cycle_head(out, at, first.node as u16);
     let from = at + certificate::CYCLE_SIZE;
-    circuit::write_steps(machine, k, notes, m, out, from);
+    circuit::write_steps(rules, k, notes, m, out, from);
     from + certificate::STEP_SIZE * k
 }
 
 // Writes the certificate of a solution, and gives the number of its bytes.
 pub fn write(
-    machine: &Machine,
+    rules: &Rules,
     n: usize,
     solution: Solution,
     notes: &mut [u32; graph::NOTE_ROOM],
     m: &[u8],
     out: &mut [u8],
 ) -> usize
-    requires { Writable machine.now.rules m.now n solution × (links_end ≤ length m.now) × (certificate_room ≤ length out.old) }
-    ensures { (P : Plan) (next : List ℕ) → Solving P machine.now.rules next m.now n solution → Written P solution.passes out.old out.new result }
+    requires ruled { Ruled rules.now }
+    requires writable { Writable rules.now m.now n solution × (links_end ≤ length m.now) × (certificate_room ≤ length out.old) }
+    ensures { (P : Plan) (next : List ℕ) → Solving P rules.now next m.now n solution → Written P solution.passes out.old out.new result }
 {
     certificate_bytes::write_head(out, solution.fraction, n as u16);
     write_potentials(n, m, out);
@@ -66,7 +69,7 @@ pub fn write(
         certificate_bytes::write_end(out, at);
         return at + 1;
     }
-    let end = write_cycle(machine, solution.steps, notes, m, out, at);
+    let end = write_cycle(rules, solution.steps, notes, m, out, at);
     certificate_bytes::write_end(out, end);
     end + 1
 }

@@ -10,7 +10,7 @@ loop-i-init c P next n v es t = summed_start t.along
 -- the sums with one step more are small
 pub overflow_add-kept : goal.overflow_add-kept
 overflow_add-kept c =
-    let g = c.requires in
+    let g = c.requires.turning in
     let more =
     summed_more g.turns.along c.loop-i-test.true (c.loop-i.invariant g.plan g.next g.count g.node g.edges g.turns)
     (c.step_edge-edge.ensures g.plan g.next g.count g.node g.edges g.turns) in
@@ -19,7 +19,7 @@ overflow_add-kept c =
 
 pub overflow_add-ideal : goal.overflow_add-ideal
 overflow_add-ideal c =
-    let g = c.requires in
+    let g = c.requires.turning in
     let more =
     summed_more g.turns.along c.loop-i-test.true (c.loop-i.invariant g.plan g.next g.count g.node g.edges g.turns)
     (c.step_edge-edge.ensures g.plan g.next g.count g.node g.edges g.turns) in

@@ -8,4 +8,4 @@ use Rattle.circuit.proofs.gains.Given as goal
 
 abbrev pub invariant-loop-i : goal.invariant-loop-i
 invariant-loop-i l =
-    (P : Plan) (next : List ℕ) (n v : ℕ) (es : List Edge) → Turns P l.machine.rules next l.m n l.k v es → Summed P l.m l.k v l.i l.kept l.ideal
+    (P : Plan) (next : List ℕ) (n v : ℕ) (es : List Edge) → Turns P l.rules next l.m n l.k v es → Summed P l.m l.k v l.i l.kept l.ideal

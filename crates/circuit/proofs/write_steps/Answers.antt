@@ -12,7 +12,7 @@ loop-i-preserved c P next n v es t =
     let a = c.args in
     let l = c.loop-i in
     subst (Written P a.m.now a.k v (l.i + 1) a.out.now a.at) (sym c.write_step.ensures)
-    (written-more t.along c.loop-i-test.true c.requires.1 (l.invariant P next n v es t) (c.step_edge-edge.ensures P next n v es t))
+    (written-more t.along c.loop-i-test.true c.requires.turning.1 (l.invariant P next n v es t) (c.step_edge-edge.ensures P next n v es t))
 
 pub returns : goal.returns
 returns c P next n v es t = written_all t.along c.loop-i-test.false (c.loop-i.invariant P next n v es t)

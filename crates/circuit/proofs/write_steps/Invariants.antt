@@ -9,5 +9,5 @@ use Rattle.circuit.proofs.write_steps.Given as goal
 
 abbrev pub invariant-loop-i : goal.invariant-loop-i
 invariant-loop-i l =
-    (P : Plan) (next : List ℕ) (n v : ℕ) (es : List Edge) → Turns P l.machine.rules next l.m n l.k v es →
+    (P : Plan) (next : List ℕ) (n v : ℕ) (es : List Edge) → Turns P l.rules next l.m n l.k v es →
     Written P l.m l.k v l.i l.initial.out l.at l.out

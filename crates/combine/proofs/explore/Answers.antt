@@ -7,6 +7,11 @@ use Rattle.plan.specs.View.{label_count}
 use Rattle.combine.proofs.Growing.{part-more, part-many}
 use Rattle.combine.proofs.explore.Goals as goal
 
+pub bounds-entries-label : goal.bounds-entries-label
+bounds-entries-label c =
+    let most : 2 ^ c.args.tasks.now.count ≤ label_count = pow_mono c.args.tasks.now.fits in
+    omega (arith, c.labels-label-end.ensures, c.loop-label-test.true, most)
+
 pub returns-in_err-step : goal.returns-in_err-step
 returns-in_err-step c =
     rw c.from_residual.ensures

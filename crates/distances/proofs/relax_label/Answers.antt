@@ -19,8 +19,8 @@ next-requires c =
 pub returns-in_default : goal.returns-in_default
 returns-in_default c P t = label-none t (leads-of t c.requires.1 c.in_default.ensures)
 
-pub reach-noted-requires : goal.reach-noted-requires
-reach-noted-requires c =
+pub reach-noted-requires-clause-node : goal.reach-noted-requires-clause-node
+reach-noted-requires-clause-node c =
     let a = c.args in
     let g = c.requires.0 in
     let ts = tasks_in a.machine.now.rules in (

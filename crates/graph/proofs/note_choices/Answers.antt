@@ -12,13 +12,13 @@ use Rattle.graph.proofs.note_choices.Goals as goal
 pub note_task-requires : goal.note_task-requires
 note_task-requires c = (
   c.table-table.ensures,
-  offers-sound c.args.machine.now.ruled.tasks c.offers_of-offers.ensures,
-  record { task = omega arith; pattern = c.requires.0; gain = omega arith; masks = omega arith },
-  c.requires.1,
+  offers-sound c.requires.ruled.tasks c.offers_of-offers.ensures,
+  record { task = omega arith; pattern = c.requires.room.0; gain = omega arith; masks = omega arith },
+  c.requires.room.1,
 )
 
 pub returns : goal.returns
 returns c =
     let o = c.offers_of-offers.ensures in
     subst₂ (λ (w : ℕ) (os : List Outcome). Noting w os lists_at c.args.notes.now 0 c.note_task.new.notes c.note_task.result)
-    (ap wanted_in o.wanted) (offered-all c.args.machine.now.ruled.tasks o c.args.taken) c.note_task.ensures
+    (ap wanted_in o.wanted) (offered-all c.requires.ruled.tasks o c.args.taken) c.note_task.ensures

@@ -12,5 +12,5 @@ use Rattle.graph.proofs.offers_of.Given as goal
 abbrev pub invariant-loop-i : goal.invariant-loop-i
 invariant-loop-i l = record {
   size : length l.offers ≡ max_tasks;
-  each : (k : ℕ) → k < l.i → OffersTask (get_or (tasks_in l.machine.rules) k no_task) (bit l.label k) (get_or l.offers k no_offer);
+  each : (k : ℕ) → k < l.i → OffersTask (get_or (tasks_in l.rules) k no_task) (bit l.label k) (get_or l.offers k no_offer);
 }

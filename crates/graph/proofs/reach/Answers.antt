@@ -14,8 +14,7 @@ returns c =
     let noted = c.note_choices-count in
     let cleared = c.clear_notes in
     let a = c.args in
-    let m = a.machine.now in
-    let ts = tasks_in m.rules in
+    let ts = tasks_in a.rules.now in
     let w = wanted_in a.wanted in
     let taken = a.node.now.taken in
     let after = noted.new.notes in
@@ -24,6 +23,6 @@ returns c =
     record {
       slot = c.slot-done.ensures;
       notes = notes;
-      readable = label-readable ts m.ruled.tasks a.label taken w c.requires.1 after noted.result notes noted.ensures.room;
+      readable = label-readable ts c.requires.ruled.tasks a.label taken w c.requires.node.1 after noted.result notes noted.ensures.room;
       only = only_trans cleared.ensures.only (keeps_free noted.ensures.keeps);
     }

@@ -17,7 +17,7 @@ pub locked-requires : goal.locked-requires
 locked-requires c = omega (arith, lock-there _ _ _ _ _ (readable-as _ _ _ _ _ c.in-Lock.is c.requires))
 
 pub returns-in-Task : goal.returns-in-Task
-returns-in-Task c = reads_as _ _ _ _ _ _ _ c.in-Task.is (task-read _ _ _ _ _ (readable-as _ _ _ _ _ c.in-Task.is c.requires) c.with.result c.with.ensures)
+returns-in-Task c = reads_as _ _ _ _ _ _ _ c.in-Task.is (task-read _ _ _ _ _ (readable-as _ _ _ _ _ c.in-Task.is c.requires) c.with.result c.with.ensures.list c.with.ensures.bare)
 
 pub returns-in-Policy : goal.returns-in-Policy
 returns-in-Policy c = reads_as _ _ _ _ _ _ _ c.in-Policy.is (policy-read _ _ _ _ _ (readable-as _ _ _ _ _ c.in-Policy.is c.requires))
@@ -32,4 +32,4 @@ pub returns-in-End : goal.returns-in-End
 returns-in-End c = reads_as _ _ _ _ _ _ _ c.in-End.is (end-read _ _ _ _ _ (readable-as _ _ _ _ _ c.in-End.is c.requires))
 
 pub returns-in-Lock : goal.returns-in-Lock
-returns-in-Lock c = reads_as _ _ _ _ _ _ _ c.in-Lock.is (lock-read _ _ _ _ _ (readable-as _ _ _ _ _ c.in-Lock.is c.requires) c.locked.result c.locked.ensures)
+returns-in-Lock c = reads_as _ _ _ _ _ _ _ c.in-Lock.is (lock-read _ _ _ _ _ (readable-as _ _ _ _ _ c.in-Lock.is c.requires) c.locked.result c.locked.ensures.list c.locked.ensures.bare)

@@ -16,7 +16,7 @@ use Rattle.plan.proofs.View.{tasks-size}
 use Rattle.words.proofs.Put.{put_byte, put_then}
 use Rattle.plan_bytes.specs.Sizes.{arc_size}
 use Rattle.plan_bytes.specs.Locks.{LocksFit}
-use Rattle.plan.specs.declared.Plan.{Plan}
+use Rattle.plan.specs.declared.tasks.Plan.{Plan}
 use mathlib.Core.List.{List}
 use Rattle.plan_bytes.proofs.Pieces.{plan_pieces}
 use Rattle.plan_bytes.proofs.write_in.Goals as goal

@@ -1,6 +1,6 @@
 -- `policy::displaced` meets its contract: each test is the definition's.
 -- Assumes nothing.
-use Rattle.std.proofs.Common.{◌≡◌, refl, sym, ap, ◌∙◌, subst, Bool, true, false, cond, not, ◌&&◌, List, ℕ, ◌-◌, ◌<◌, ◌≤◌, get_or, lt-ltb, le-ltb, eq-eqb, ne_eqb, ltb, eqb, arith}
+use Rattle.std.proofs.Common.{◌≡◌, refl, sym, ◌∙◌, subst, Bool, true, false, cond, not, ◌&&◌, List, ℕ, ◌-◌, ◌<◌, ◌≤◌, get_or, lt-ltb, le-ltb, eq-eqb, ne_eqb, ltb, eqb, arith}
 use Rattle.std.proofs.lemmas.Bool.{eqb-true, eqb-false}
 use Rattle.std.specs.Prelude as rust
 use Rattle.std.specs.Prelude.{None, Some}

@@ -1,5 +1,5 @@
 -- The loop writes the cells from the front.
-use Rattle.std.proofs.Common.{refl, sym, ◌+◌, arith}
+use Rattle.std.proofs.Common.{refl, sym, arith}
 use Rattle.words.proofs.Memory.{overwrite-none}
 use Rattle.words.proofs.Tables.{written-more, written_all}
 use Rattle.policy.specs.View.{slot_cells, held_in, held_cells}

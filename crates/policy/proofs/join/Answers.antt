@@ -19,7 +19,8 @@ loop-i-preserved c =
     let new = new_work (list_of c.args.tasks.now) c.args.label in
     let i = c.loop-i.i in
     let room : cell_count + i < length c.widen-joined.result = omega (arith, ap length c.widen-joined.ensures, length-append c.args.cells.now (replicate max_tasks 0), c.told-cells) in
-    written-more new 0 c.widen-joined.result cell_count i (cell_count + i) i refl (omega arith) room c.new_work.ensures c.loop-i.invariant
+    let work = c.new_work.ensures ∙ ap (λ ts. new_work ts c.args.label i) c.as_slice-given.ensures in
+    written-more new 0 c.widen-joined.result cell_count i (cell_count + i) i refl (omega arith) room work c.loop-i.invariant
 
 pub returns : goal.returns
 unfolding joined_cells

@@ -6,7 +6,7 @@ use mathlib.Core.List.{List, ◌++◌}
 use Prim.Native.Nat.{ℕ, ◌<◌}
 use native.Mathlib.Omega.{arith}
 use Rattle.model.specs.Slot.{key, new_jobs}
-use Rattle.policy.specs.View.{cell_number, slot_cells, jobs_of, tasks_in, Leaves, Slotted, Ruled, Cells, cell_count, joined_cells, first_cell, runnable_cells}
+use Rattle.policy.specs.View.{slot_cells, jobs_of, tasks_in, Leaves, Slotted, Ruled, Cells, cell_count, joined_cells, first_cell, runnable_cells}
 use Rattle.policy.specs.declared.Rules.{Rules}
 use Rattle.policy.proofs.Cells.{worked-leaves, aged-leaves}
 use Rattle.policy.proofs.NewJobs.{joined-leaves}

@@ -24,8 +24,8 @@ next-requires c =
 pub returns-in_default-clause-value : goal.returns-in_default-clause-value
 returns-in_default-clause-value c P d t = label-not t c.requires.1 c.args.from.label (sym (ap option_of c.in_default.is) ∙ c.next.ensures)
 
-pub reach-noted-requires : goal.reach-noted-requires
-reach-noted-requires c =
+pub reach-noted-requires-clause-node : goal.reach-noted-requires-clause-node
+reach-noted-requires-clause-node c =
     let a = c.args in
     let g = c.requires.0 in (
       numbered-cells g.plan (tasks_in a.machine.now.rules) a.m.now a.claim.n g.test.holds a.from.number a.from.node c.requires.1,

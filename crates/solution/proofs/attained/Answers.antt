@@ -6,8 +6,8 @@ use Rattle.model.specs.Check.{gcd}
 use Rattle.solution.proofs.Falls.{circling-turns, circling-few, circling-some, circling_lowers}
 use Rattle.solution.proofs.attained.Goals as goal
 
-pub gains-sums-requires : goal.gains-sums-requires
-gains-sums-requires c =
+pub gains-sums-requires-clause-turning : goal.gains-sums-requires-clause-turning
+gains-sums-requires-clause-turning c =
     let g = c.requires.0 in
     let k = g.circling in record {
       room = c.requires.1;

@@ -6,8 +6,8 @@ use Rattle.std.specs.Prelude.{Ok}
 use Rattle.solver.specs.Promise.{Answer}
 use Rattle.solver.proofs.solve_nodes.Goals as goal
 
-pub write-bytes-requires : goal.write-bytes-requires
-write-bytes-requires c =
+pub write-bytes-requires-clause-writable : goal.write-bytes-requires-clause-writable
+write-bytes-requires-clause-writable c =
     let h = c.requires.0 in
     let call = c.least-solution in (
       record { next = c.args.machine.now.next; solvable = record { plan = h.plan; solving = call.ensures.solving h.plan h.planned h.holds } },

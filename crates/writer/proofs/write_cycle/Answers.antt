@@ -15,9 +15,9 @@ use Rattle.writer.proofs.write_cycle.Goals as goal
 
 pub overflow_cast-first : goal.overflow_cast-first
 overflow_cast-first c =
-    let turns = c.requires.0.turns in
+    let turns = c.requires.turning.0.turns in
     let node = ap (λ (s : Taken). s.node) c.step_at-first.ensures in
-    record { fits = omega (arith, node, turns.below 0 c.requires.1, turns.holds.rows.index.few) }
+    record { fits = omega (arith, node, turns.below 0 c.requires.turning.1, turns.holds.rows.index.few) }
 
 pub returns : goal.returns
 returns c =
@@ -26,7 +26,7 @@ returns c =
       writes_cycle = λ P next n v es t.
           let w = c.write_steps.ensures P next n v es t in
           let node : _ ≡ v =
-          ap (λ (s : Taken). s.node) c.step_at-first.ensures ∙ sym (first-node a.m.now a.k c.requires.1 t.along) in
+          ap (λ (s : Taken). s.node) c.step_at-first.ensures ∙ sym (first-node a.m.now a.k c.requires.turning.1 t.along) in
           record {
             edges = w.edges;
             along = w.along;
@@ -35,6 +35,6 @@ returns c =
                 ∙ ap (λ x. overwrite x (a.at + cycle_size) (steps_bytes (map step_of w.edges)))
                 (c.write_cycle_head.ensures ∙ ap (λ (x : ℕ). overwrite a.out.now a.at (node_bytes x)) node)
                 ∙ cycle-written a.out.now a.at v w.edges
-                (omega (arith, ap (λ (x : ℕ). step_size * x) (edges-count a.m.now a.k w.along), c.requires.2));
+                (omega (arith, ap (λ (x : ℕ). step_size * x) (edges-count a.m.now a.k w.along), c.requires.turning.2));
           };
     }

@@ -9,7 +9,7 @@ use Rattle.model.specs.Plan.{PlanAnswer}
 use Rattle.model.specs.Text.{refused_line}
 use Rattle.model.specs.Bytes.{Put}
 use Rattle.plan.specs.declared.Fault.{Fault}
-use Rattle.plan.specs.declared.Plan.{Plan}
+use Rattle.plan.specs.declared.tasks.Plan.{Plan}
 use Rattle.plan.specs.View.{answer_of}
 use Rattle.words.proofs.Put.{put_as}
 use Rattle.text.proofs.Put.{counted}
