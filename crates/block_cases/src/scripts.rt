@@ -61,7 +61,7 @@ fn write_item(controller: &mut Controller, item: &[u8])
     let told = run_item(controller, item);
     let bytes = controller::registers(controller.block);
     let mut line = [0u8; block_text::LINE_ROOM];
-    let n = block_text::put_line(&mut line, 0, told, bytes);
+    let n = block_text::put_line(&mut line, 0, controller::number_of(told), bytes);
     io::write_all(STDOUT, &line[..n]);
 }
 

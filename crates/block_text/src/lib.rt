@@ -7,13 +7,12 @@ ghost use Rattle.model.specs.Controller.{after_writes, writes_in};
 ghost use Rattle.model.specs.Text.{field, number_line, numbers_line};
 ghost use Rattle.policy.specs.View.{tasks_in};
 ghost use Rattle.controller.specs.Block.{Ready, block_of};
-ghost use Rattle.controller.specs.View.{Becomes, refusal_of_result};
+ghost use Rattle.controller.specs.View.{Becomes};
 ghost use Rattle.block_text.specs.Lines.{line_room, part_bytes, text_room, Lined};
 
 use controller::Block;
 use host::STDOUT;
 use machine::Machine;
-use refusals::Refusal;
 
 // The most bytes of a line.
 pub const LINE_ROOM: usize = 67;
@@ -50,16 +49,11 @@ fn put_last_byte(out: &mut [u8], at: usize, byte: u8) -> usize
 }
 
 // Writes the line of a write at a place, its refusal or 0 and the sixteen bytes, and answers the place after it.
-pub fn put_line(
-    out: &mut [u8],
-    at: usize,
-    told: Result<(), Refusal>,
-    bytes: [u8; controller::BYTES],
-) -> usize
-    requires { at + length (numbers_line (refusal_of_result told) bytes) ≤ length out.old }
-    ensures { Put out.old out.new at (numbers_line (refusal_of_result told) bytes) result }
+pub fn put_line(out: &mut [u8], at: usize, refusal: u64, bytes: [u8; controller::BYTES]) -> usize
+    requires { at + length (numbers_line refusal bytes) ≤ length out.old }
+    ensures { Put out.old out.new at (numbers_line refusal bytes) result }
 {
-    let mut end = text::put_field(out, at, controller::number_of(told));
+    let mut end = text::put_field(out, at, refusal);
     for i in 0..LAST {
         end = put_byte(out, end, bytes[i]);
     }
@@ -76,8 +70,9 @@ pub fn put_lines(out: &mut [u8], machine: &Machine, block: Block, writes: &[u8])
     for i in 0..writes.len() / 2 {
         let byte = u64::from(writes[2 * i]);
         let told = controller::step(machine, &mut after, byte, writes[2 * i + 1]);
+        let refusal = controller::number_of(told);
         let bytes = controller::registers(after);
-        end = put_line(out, end, told, bytes);
+        end = put_line(out, end, refusal, bytes);
     }
     Lines { block: after, end }
 }

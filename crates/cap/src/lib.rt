@@ -104,7 +104,8 @@ impl Cap {
         }
     }
 
-    // Goes through labels, up to the first slot that tells something.
+    // Goes through labels, up to the first slot that tells something. Not inlined: the loop then stands alike in every program, whatever is around it.
+    #[inline(never)]
     fn scan(&self, window: &Window, labels: &[u8]) -> Watch
         requires { Room self.now window.now (length labels.now) }
         ensures { Scans self.now window.now labels.now result }

@@ -1,12 +1,15 @@
 // What the programs ask of the system: files to read, and their arguments.
 #![tactic(auto)]
 
-ghost use Rattle.std.specs.Prelude.{◌≡◌, ◌≤◌, None};
+ghost use Rattle.std.specs.Prelude.{◌≡◌, ◌≤◌, MatchOption, None, neg_ℤ, pos, take};
+ghost use Rattle.std.specs.Fd.{file_raw_fd};
+ghost use Rattle.std.specs.Io.KnownBytes.{Consumes};
 ghost use Rattle.io.specs.Counts.{IsPrefixLen};
 
 use std::env::{Env, FillError};
 use std::fs::File;
 use std::io::Read;
+use std::os::fd::AsRawFd;
 use std::rt::Files;
 
 // The descriptors of standard output and standard error. Numbers, since `io::write_all` takes these: what prints is then handed no runtime.
@@ -14,9 +17,10 @@ pub const STDOUT: i32 = 1;
 
 pub const STDERR: i32 = 2;
 
-// Reads on until buf is full, nothing is left or a read fails, and answers how many bytes it put at the start of buf.
+// Reads on until buf is full, nothing is left or a read fails, and answers how many bytes it put at the start of buf: those that the reader gave.
 pub fn read_full<R: Read>(reader: &mut R, buf: &mut [u8]) -> usize
-    ensures { IsPrefixLen result buf.new }
+    ensures prefix_len { IsPrefixLen result buf.new }
+    ensures bytes { Consumes (R.remaining reader.old) (R.remaining reader.new) (take result buf.new) }
 {
     let mut done = 0;
     // Not a `for`: each read tells how far the next one begins.
@@ -32,13 +36,23 @@ pub fn read_full<R: Read>(reader: &mut R, buf: &mut [u8]) -> usize
     done
 }
 
-// The same of a file that may be missing: without it nothing is read.
+// The descriptor to read a file by; without a file one from which nothing is read.
+pub fn descriptor(file: &Option<File>) -> i32
+    ensures { MatchOption file.now (result ≡ neg_ℤ (pos 1)) (λ opened. result ≡ file_raw_fd opened) }
+{
+    match file {
+        Some(opened) => opened.as_raw_fd(),
+        None => -1,
+    }
+}
+
+// Reads on as `read_full`, by the descriptor of a file that may be missing: without it nothing is read.
 pub fn read_part(file: &mut Option<File>, buf: &mut [u8]) -> usize
     ensures prefix_len { IsPrefixLen result buf.new }
     ensures nothing { file.old ≡ None → result ≡ 0 }
 {
     match file {
-        Some(opened) => read_full(opened, buf),
+        Some(_) => io::read_full(descriptor(file), buf),
         None => 0,
     }
 }

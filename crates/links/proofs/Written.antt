@@ -19,7 +19,7 @@ use Rattle.words.proofs.Fields.{field-read}
 use Rattle.words.proofs.Free.{only_part, overwrite-only, overwrite-within}
 use Rattle.words.proofs.Memory.{overwrite-one, overwrite-inside, overwrite_outside, overwrite_frame, overwrite_join, overwrite-more, part_skip, get_or_skip}
 use Rattle.words.proofs.Numbers.{bytes-length}
-use Rattle.links.specs.Links.{link_bytes, taken_bytes, links_at, steps_at, links_end, link_place, link_in, step_place, taken_in, byte_of, mark_of, marked, Puts, PutsStep, links_size, steps_size}
+use Rattle.links.specs.Links.{link_bytes, taken_bytes, links_at, steps_at, links_end, link_place, link_in, mark_byte, step_place, taken_in, byte_of, mark_of, marked, Puts, PutsStep, links_size, steps_size}
 use Rattle.links.specs.declared.Link.{Link}
 use Rattle.links.specs.declared.Mark.{Mark}
 use Rattle.links.specs.declared.Mark.TheVariants.{Unknown, Waiting, Tried}
@@ -42,6 +42,12 @@ mark-back : (k : Mark) → mark_of (byte_of k) ≡ k
 mark-back Unknown = refl
 mark-back Waiting = refl
 mark-back Tried = refl
+
+-- no byte of a mark is above 2
+pub byte_low : (k : Mark) → byte_of k ≤ 2
+byte_low Unknown = omega arith
+byte_low Waiting = omega arith
+byte_low Tried = omega arith
 
 -- the bytes of a link
 abbrev pub bytes_of : Link → List ℕ
@@ -85,6 +91,9 @@ module _ (l : Link) (signs : mag l.distance < 2 ^ 63) (low : l.parent < 256 ^ 2)
     fits : link_place v + length (bytes_of l) ≤ length m
     fits = omega (arith, bytes_of-length l)
 
+    same_byte : mark_byte after v ≡ byte_of l.mark
+    same_byte = overwrite-inside m (link_place v) (bytes_of l) fits 11 (omega (arith, bytes_of-length l)) ∙ tail-back 1
+
     same : link_in after v ≡ l
     same =
         let long = bytes_of-length l in
@@ -95,8 +104,13 @@ module _ (l : Link) (signs : mag l.distance < 2 ^ 63) (low : l.parent < 256 ^ 2)
               ∙ ap (λ bs. signed (number bs)) (overwrite-within m (link_place v) (bytes_of l) fits 0 8 (omega arith)) ∙ distance_back) i;
           parent = (ap number (overwrite-within m (link_place v) (bytes_of l) fits 8 2 (omega arith)) ∙ parent-back) i;
           label = (overwrite-inside m (link_place v) (bytes_of l) fits 10 (omega arith) ∙ tail-back 0) i;
-          mark = (ap mark_of (overwrite-inside m (link_place v) (bytes_of l) fits 11 (omega arith) ∙ tail-back 1) ∙ mark-back l.mark) i;
+          mark = (ap mark_of same_byte ∙ mark-back l.mark) i;
         }
+
+    other_byte : (x : ℕ) → (link_place x + link_bytes ≤ link_place v) ⊎ (link_place v + link_bytes ≤ link_place x) → mark_byte after x ≡ mark_byte m x
+    other_byte x side =
+        let long = bytes_of-length l in
+        overwrite_outside m (link_place v) (bytes_of l) fits (link_place x + 11) (⊎_map (λ h. omega arith) (λ h. omega arith) side)
 
     other : (x : ℕ) → (link_place x + link_bytes ≤ link_place v) ⊎ (link_place v + link_bytes ≤ link_place x) → link_in after x ≡ link_in m x
     other x side =
@@ -105,13 +119,16 @@ module _ (l : Link) (signs : mag l.distance < 2 ^ 63) (low : l.parent < 256 ^ 2)
           distance = signed (number (overwrite_frame m (link_place v) (bytes_of l) fits (link_place x) 8 (⊎_map (λ h. omega arith) (λ h. omega arith) side) i));
           parent = number (overwrite_frame m (link_place v) (bytes_of l) fits (link_place x + 8) 2 (⊎_map (λ h. omega arith) (λ h. omega arith) side) i);
           label = overwrite_outside m (link_place v) (bytes_of l) fits (link_place x + 10) (⊎_map (λ h. omega arith) (λ h. omega arith) side) i;
-          mark = mark_of (overwrite_outside m (link_place v) (bytes_of l) fits (link_place x + 11) (⊎_map (λ h. omega arith) (λ h. omega arith) side) i);
+          mark = mark_of (other_byte x side i);
         }
 
     -- the link is read back, and every other as it was
     pub puts : Puts v l m after
     puts = record {
       links = λ x h. put_one (link_in after) (link_in m) v l same x (λ side. other x (⊎_map (λ h. omega arith) (λ h. omega arith) side));
+      marks =
+          λ x h. put_one (mark_byte after) (mark_byte m) v (byte_of l.mark) same_byte x
+          (λ side. other_byte x (⊎_map (λ h. omega arith) (λ h. omega arith) side));
       only = overwrite-only m (link_place v) (bytes_of l) fits links_at links_size (omega arith) (omega (arith, bytes_of-length l));
     }
 
@@ -132,6 +149,16 @@ link-written m at l h =
     ∙ overwrite-more m at (a ++ b ++ (l.label ∷ [])) 11 (byte_of l.mark) labl (omega arith)
     ∙ ap (overwrite m at) (append_snoc (a ++ b) l.label (byte_of l.mark ∷ []))
 
+-- so the link is put, where the last byte is that of its mark
+pub link_put : (m : List ℕ) (v : ℕ) (l : Link) → mag l.distance < 2 ^ 63 → l.parent < 256 ^ 2 → links_end ≤ length m → v < max_nodes →
+    (x : List ℕ) → x ≡ overwrite (overwrite m (link_place v) (bytes 8 (complement l.distance))) (link_place v + 8) (bytes 2 l.parent) →
+    (b : ℕ) → b ≡ byte_of l.mark → Puts v l m (set (set x (link_place v + 10) l.label) (link_place v + 11) b)
+link_put m v l signs low room below x led b told =
+    subst (Puts v l m)
+    (sym
+    (ap₂ (λ y k. set (set y (link_place v + 10) l.label) (link_place v + 11) k) led told ∙ link-written m (link_place v) l (omega arith)))
+    (puts l signs low m v room below)
+
 -- ---- a mark
 
 module _ (m : List ℕ) (v : ℕ) (k : Mark) (room : links_end ≤ length m) (below : v < max_nodes) where
@@ -144,27 +171,37 @@ module _ (m : List ℕ) (v : ℕ) (k : Mark) (room : links_end ≤ length m) (be
   mark_fits : mark_at + length (byte_of k ∷ []) ≤ length m
   mark_fits = omega arith
 
+  same_mark_byte : mark_byte remarked v ≡ byte_of k
+  same_mark_byte =
+      ap (λ (j : ℕ). get_or remarked j 0) (sym (add-zero mark_at)) ∙ overwrite-inside m mark_at (byte_of k ∷ []) mark_fits 0 (omega arith)
+
   same_mark : link_in remarked v ≡ marked k (link_in m v)
   same_mark = λ i. record {
     distance = signed (number (overwrite_frame m mark_at (byte_of k ∷ []) mark_fits (link_place v) 8 (inl (omega arith)) i));
     parent = number (overwrite_frame m mark_at (byte_of k ∷ []) mark_fits (link_place v + 8) 2 (inl (omega arith)) i);
     label = overwrite_outside m mark_at (byte_of k ∷ []) mark_fits (link_place v + 10) (inl (omega arith)) i;
-    mark = (ap (λ (j : ℕ). mark_of (get_or remarked j 0)) (sym (add-zero mark_at)) ∙ ap mark_of (overwrite-inside m mark_at (byte_of k ∷ []) mark_fits 0 (omega arith)) ∙ mark-back k) i;
+    mark = (ap mark_of same_mark_byte ∙ mark-back k) i;
   }
+
+  other_mark_byte : (x : ℕ) → (link_place x + link_bytes ≤ link_place v) ⊎ (link_place v + link_bytes ≤ link_place x) → mark_byte remarked x ≡ mark_byte m x
+  other_mark_byte x side = overwrite_outside m mark_at (byte_of k ∷ []) mark_fits (link_place x + 11) (⊎_map (λ h. omega arith) (λ h. omega arith) side)
 
   other_mark : (x : ℕ) → (link_place x + link_bytes ≤ link_place v) ⊎ (link_place v + link_bytes ≤ link_place x) → link_in remarked x ≡ link_in m x
   other_mark x side = λ i. record {
     distance = signed (number (overwrite_frame m mark_at (byte_of k ∷ []) mark_fits (link_place x) 8 (⊎_map (λ h. omega arith) (λ h. omega arith) side) i));
     parent = number (overwrite_frame m mark_at (byte_of k ∷ []) mark_fits (link_place x + 8) 2 (⊎_map (λ h. omega arith) (λ h. omega arith) side) i);
     label = overwrite_outside m mark_at (byte_of k ∷ []) mark_fits (link_place x + 10) (⊎_map (λ h. omega arith) (λ h. omega arith) side) i;
-    mark = mark_of (overwrite_outside m mark_at (byte_of k ∷ []) mark_fits (link_place x + 11) (⊎_map (λ h. omega arith) (λ h. omega arith) side) i);
+    mark = mark_of (other_mark_byte x side i);
   }
 
   -- one byte is the mark
-  pub mark_written : Puts v (marked k (link_in m v)) m (set m (link_place v + 11) (byte_of k))
-  mark_written =
-      subst (Puts v (marked k (link_in m v)) m) (sym (overwrite-one m mark_at (byte_of k) (omega arith))) (record {
+  pub mark_written : (b : ℕ) → b ≡ byte_of k → Puts v (marked k (link_in m v)) m (set m (link_place v + 11) b)
+  mark_written b told =
+      subst (Puts v (marked k (link_in m v)) m) (sym (ap (set m mark_at) told ∙ overwrite-one m mark_at (byte_of k) (omega arith))) (record {
         links = λ x h. put_one (link_in remarked) (link_in m) v (marked k (link_in m v)) same_mark x (λ side. other_mark x (⊎_map (λ h. omega arith) (λ h. omega arith) side));
+        marks =
+            λ x h. put_one (mark_byte remarked) (mark_byte m) v (byte_of k) same_mark_byte x
+            (λ side. other_mark_byte x (⊎_map (λ h. omega arith) (λ h. omega arith) side));
         only = overwrite-only m mark_at (byte_of k ∷ []) mark_fits links_at links_size (omega arith) (omega arith);
       })
 

@@ -50,12 +50,16 @@ mark_of b = cond (eqb b 0) Unknown (cond (eqb b 1) Waiting Tried)
 abbrev pub link_place : ℕ → ℕ
 link_place v = links_at + link_bytes * v
 
+-- the byte of its mark
+abbrev pub mark_byte : List ℕ → ℕ → ℕ
+mark_byte memory v = get_or memory (link_place v + 11) 0
+
 abbrev pub link_in : List ℕ → ℕ → Link
 link_in memory v = record {
   distance = signed (number (part memory (link_place v) 8));
   parent = number (part memory (link_place v + 8) 2);
   label = get_or memory (link_place v + 10) 0;
-  mark = mark_of (get_or memory (link_place v + 11) 0);
+  mark = mark_of (mark_byte memory v);
 }
 
 -- the step i: the node in two bytes, and the label
@@ -97,9 +101,11 @@ first_steps memory k = map (λ i. taken_of (taken_in memory i)) (up_from 0 k)
 abbrev pub marked : Mark → Link → Link
 marked mark l = record { distance = l.distance; parent = l.parent; label = l.label; mark = mark }
 
--- the link to v is this one, every other is as it was, and so is every byte of no link
+-- the link to v is this one, its mark written as the mark's own byte; every other link is as it was, and so are the byte of its mark and every byte
+-- of no link
 pub record Puts (v : ℕ) (link : Link) (before after : List ℕ) : Type 0 where
   pub links : (x : ℕ) → x < max_nodes → link_in after x ≡ cond (eqb x v) link (link_in before x)
+  pub marks : (x : ℕ) → x < max_nodes → mark_byte after x ≡ cond (eqb x v) (byte_of link.mark) (mark_byte before x)
   pub only : Only links_at links_size before after
 
 -- the step i is this one, every other is as it was, and so is every byte of no step

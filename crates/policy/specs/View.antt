@@ -7,7 +7,7 @@ use Rattle.model.specs.Plan as model
 use Rattle.model.specs.Slot as model_slot
 use Rattle.model.specs.Slot.{Job, JobId, no_task, edf, srt, fifo}
 use Rattle.std.specs.Prelude as rust
-use Rattle.std.specs.Prelude.{None, Some}
+use Rattle.std.specs.Prelude.{IfSome, None, Some}
 use Rattle.plan.specs.View.{list_of}
 use Rattle.plan.specs.declared.tasks.Plan.{Plan}
 use Rattle.policy.specs.declared.Rules.{Rules}
@@ -210,8 +210,9 @@ ran_in ts k = cond (ltb k slot_cells) (some (record { task = task_in k; left = l
 abbrev pub done_of : Tasks → Done → model_slot.Done
 done_of ts d = record { jobs = jobs_of ts d.cells; ran = ran_in ts (cell_number d.ran); gain = d.gain }
 
--- what a slot leaves is the rule's, and cells again; a job ran in the cell of the first
+-- what a slot leaves is the rule's, and cells again; a job ran in the cell of the first, and `ran` is None where there is none
 pub record Slotted (r : Rules) (before : List ℕ) (label : ℕ) (d : Done) : Type 0 where
   pub rule : (P : model.Plan) → P.tasks ≡ tasks_in r → P.policy ≡ r.policy → done_of (tasks_in r) d ≡ model_slot.slot P (jobs_of (tasks_in r) before) label
   pub cells : Cells (tasks_in r) cell_count d.cells
   pub ran : cell_number d.ran ≡ first_cell r.policy (runnable_cells (joined_cells (tasks_in r) before label) r.hold) r.left
+  pub below : IfSome d.ran (λ k. k < slot_cells)

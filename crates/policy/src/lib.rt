@@ -305,9 +305,11 @@ pub fn slot(rules: &Rules, cells: &[u8; CELLS], label: u8) -> Done
 {
     let ready = join(&rules.tasks, cells, label);
     let pool = runnable(&ready, &rules.hold);
-    let Some(at) = choose(rules.policy, &pool, &rules.left) else {
+    // A copy, since behind the reference an entry is read only where there is a job, by a branch for each cell.
+    let left = rules.left;
+    let Some(at) = choose(rules.policy, &pool, &left) else {
         return Done {
-            cells: age(&ready, &rules.left),
+            cells: age(&ready, &left),
             ran: None,
             gain: 0,
         };
@@ -316,7 +318,7 @@ pub fn slot(rules: &Rules, cells: &[u8; CELLS], label: u8) -> Done
     let gain = gain_in(&rules.tasks, k, ready[k]);
     let after = run(ready, k);
     Done {
-        cells: age(&after, &rules.left),
+        cells: age(&after, &left),
         ran: Some(at),
         gain,
     }

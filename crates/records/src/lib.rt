@@ -2,7 +2,8 @@
 // bytes begin as a case says; and what a call that writes bytes tells and leaves.
 #![tactic(auto)]
 
-ghost use Rattle.std.specs.Prelude.{◌≡◌, min, length, replicate};
+ghost use Rattle.std.specs.Prelude.{◌≡◌, List, ℕ, min, length, replicate};
+ghost use Rattle.std.specs.List.{FoldsTo};
 ghost use Rattle.io.specs.Counts.{IsPrefixLen};
 ghost use Rattle.refusals.specs.Told.{result_by};
 ghost use Rattle.answer_text.specs.Finish.{result_line};
@@ -15,22 +16,25 @@ use std::io::Read;
 use std::rt::Files;
 
 // Runs each case of cases.bin by `run`, which gets the case's kind and the file, and answers whether it knows the kind. The file has the number of
-// cases in two bytes, and then for each one byte with its kind and its fields, each behind two bytes of its length.
-pub fn run_cases<R: Files<File = File>, F: FnMut(u8, &mut File) -> bool>(rt: &R, mut run: F)
+// cases in two bytes, and then for each one byte with its kind and its fields, each behind two bytes of its length. How many cases were run.
+pub fn run_cases<R: Files<File = File>, F: FnMut(u8, &mut File) -> bool>(rt: &R, mut run: F) -> u16
     requires { F.IsAlwaysCallable run }
+    ensures { (kinds : List ℕ) × (last : F) × (result ≡ length kinds) × FoldsTo (λ p k q. (file : _) × (known : _) × (left : _) × F.step p k file known left q) run kinds last }
 {
     let Ok(mut file) = File::open(rt, "cases.bin") else {
-        return;
+        return 0;
     };
     let mut count = [0u8; 2];
     host::read_full(&mut file, &mut count);
-    for _ in 0..words::read_u16(&count, 0) {
+    let n = words::read_u16(&count, 0);
+    for _ in 0..n {
         let mut kind = [0u8; 1];
         host::read_full(&mut file, &mut kind);
         if !run(kind[0], &mut file) {
             io::write_all(STDOUT, b"unknown kind\n");
         }
     }
+    n
 }
 
 // Reads the next record, two bytes of length and then so many, into a buffer; how many bytes it has.

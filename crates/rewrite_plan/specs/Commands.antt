@@ -91,6 +91,10 @@ due command.Combine plan other = combine plan other
 due command.Forth plan other = forth plan
 due command.Back plan other = back plan
 
+-- the text of what is due stands first in what a command was lent, n bytes of it, whatever the other plan was
+abbrev pub Rewrites : Command → List ℕ → List ℕ → List ℕ → ℕ → Type 0
+Rewrites c plan before after n = (other : List ℕ) × Put before after 0 (writing_text (spelled c) (due c plan other (length before))) n
+
 -- what a command writes, the text of what is due with room for a plan; for arguments that are none it writes nothing
 abbrev pub Runs : rust.Option Command → ℕ → Type 0
 Runs (Some c) n =

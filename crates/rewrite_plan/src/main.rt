@@ -5,13 +5,12 @@
 #![tactic(auto)]
 
 ghost use Rattle.std.specs.Prelude.{◌≡◌, List, ℕ, ◌≤◌, length};
-ghost use Rattle.io.specs.Counts.{IsPrefixLen};
 ghost use Rattle.model.specs.Bytes.{Put};
 ghost use Rattle.model.specs.Edition.{plan_room};
 ghost use Rattle.model.specs.Text.{writing_text};
 ghost use Rattle.answer_text.specs.Finish.{refusal_room};
 ghost use Rattle.refusals.specs.Told.{Told};
-ghost use Rattle.rewrite_plan.specs.Commands.{word_in, alone_is, single_is, spacing_is, counted_is, command_is, spelled, due, Runs};
+ghost use Rattle.rewrite_plan.specs.Commands.{word_in, alone_is, single_is, spacing_is, counted_is, command_is, spelled, due, Rewrites, Runs};
 
 use gap::Group;
 use host::STDERR;
@@ -146,13 +145,29 @@ fn usage() -> usize
     0
 }
 
-// Reads the other plan where the command takes one, and answers how many bytes it has.
-fn read_other<R: Files<File = File>>(rt: &R, command: Command, other: &mut [u8]) -> usize
-    ensures { IsPrefixLen result other.new }
+// Reads the other plan, and writes what a command makes of both.
+fn write_of_both<R: Files<File = File>>(
+    rt: &R,
+    command: Command,
+    plan: &[u8],
+    out: &mut [u8],
+) -> usize
+    requires { refusal_room ≤ length out.old }
+    ensures { Rewrites command plan.now out.old out.new result }
+{
+    let mut other = io::large_buffer();
+    let rest = host::read_file(rt, "other.bin", &mut other);
+    write(command, plan, &other[..rest], out)
+}
+
+// Writes what a command makes of the plan, and of the other one where it takes one.
+fn write_of<R: Files<File = File>>(rt: &R, command: Command, plan: &[u8], out: &mut [u8]) -> usize
+    requires { refusal_room ≤ length out.old }
+    ensures { Rewrites command plan.now out.old out.new result }
 {
     match command {
-        Command::Combine => host::read_file(rt, "other.bin", other),
-        _ => 0,
+        Command::Combine => write_of_both(rt, command, plan, out),
+        Command::Space(..) | Command::Forth | Command::Back => write(command, plan, &[], out),
     }
 }
 
@@ -164,11 +179,9 @@ fn run<R: Files<File = File>>(rt: &R, command: Option<Command>) -> usize
         return usage();
     };
     let mut plan = io::large_buffer();
-    let mut other = io::large_buffer();
     let mut out = [0; plan_bytes::PLAN_ROOM];
     let length = host::read_file(rt, "plan.bin", &mut plan);
-    let rest = read_other(rt, command, &mut other);
-    write(command, &plan[..length], &other[..rest], &mut out)
+    write_of(rt, command, &plan[..length], &mut out)
 }
 
 fn main(rt: HostRuntime) {

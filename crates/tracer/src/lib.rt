@@ -9,7 +9,7 @@ ghost use Rattle.model.specs.Plan as model;
 ghost use Rattle.model.specs.Schedule.{admits};
 ghost use Rattle.model.specs.Trace as model_trace;
 ghost use Rattle.model.specs.Trace.{row_size};
-ghost use Rattle.plan.specs.View.{arcs_in, plan_of};
+ghost use Rattle.plan.specs.View.{arcs_in, plan_of, StatesFit};
 ghost use Rattle.policy.specs.View.{tasks_in};
 ghost use Rattle.refusals.specs.Told.{Told};
 ghost use Rattle.tracer.specs.Promise.{Traces};
@@ -25,13 +25,14 @@ pub const TRACE_ROOM: usize = Node::TRACE_ROOM;
 
 pub const MAX_LABELS: usize = Node::MAX_LABELS;
 
-// Whether a machine admits the labels.
-fn admitted(machine: &Machine, labels: &[u8]) -> bool
-    ensures { (P : model.Plan) → P.arcs ≡ arcs_in machine.now.next → result ≡ admits P labels.now }
+// Whether a plan with this table admits the labels.
+fn admitted(next: &[u8; plan::PAIRS], labels: &[u8]) -> bool
+    requires { StatesFit next.now }
+    ensures { (P : model.Plan) → P.arcs ≡ arcs_in next.now → result ≡ admits P labels.now }
 {
     let mut state = 0;
     for label in labels {
-        let Some(to) = machine.next(state, *label) else {
+        let Some(to) = plan::next_state(next, state, *label) else {
             return false;
         };
         state = to;
@@ -88,13 +89,13 @@ fn trace_plan(plan: Plan, labels: &[u8], out: &mut [u8]) -> Result<usize, Refusa
     ensures { Told model_trace.trace_bytes (model_trace.trace_run (plan_of plan) labels.now) out.old out.new result }
 {
     let n = labels.len();
-    let machine = Machine::of(plan);
     if MAX_LABELS < n {
         return Err(Refusal::TooManyLabels);
     }
-    if !admitted(&machine, labels) {
+    if !admitted(&plan.next, labels) {
         return Err(Refusal::NotAdmitted);
     }
+    let machine = Machine::of(plan);
     write_slots(&machine, labels, out);
     Ok(ROW_BYTES * n)
 }

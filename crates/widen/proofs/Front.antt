@@ -7,8 +7,7 @@ use Prim.Native.Nat.{ℕ, ◌+◌, ◌*◌, ◌≤◌}
 use native.Mathlib.Omega.{arith}
 use borrow.Author.Tests.{eqb-true}
 use lib.Dec.{eqb}
-use Rattle.std.proofs.lemmas.List.{length-take-le}
-use lib.ListN.{length, take, drop, length-append}
+use lib.ListN.{length, take, length-append}
 use lib.Seq.{take_at}
 use Rattle.model.specs.Limits.{certificate_room}
 use Rattle.model.specs.Edition.{Edition, first_edition, long_reads}
@@ -127,8 +126,3 @@ module _ (bs : List ℕ) (h : AreBytes bs) (parts : Parts) (is : IsRead first_ed
       ∙ overwrite-then m 0 (front_bytes c ++ steps long_reads) end_bytes end
       (omega (arith, length-append (front_bytes c) (steps long_reads), front-place, long)) (omega (arith, widened-room))
       ∙ ap (overwrite m 0) (sym (in_edition long_reads))
-
--- a first part that was copied
-pub copied : (m bs now : List ℕ) (n : ℕ) → n ≤ length bs → now ≡ take n bs → now ++ drop n m ≡ overwrite m 0 (part bs 0 n)
-unfolding overwrite
-copied m bs now n fits is = (λ i. is i ++ drop n m) ∙ ap (λ (k : ℕ). take n bs ++ drop k m) (omega (arith, length-take-le n bs fits))

@@ -5,7 +5,7 @@ ghost use Rattle.std.specs.Prelude.{◌≡◌, ◌+◌, ◌*◌, ◌≤◌, leng
 ghost use Rattle.model.specs.Limits.{certificate_room};
 ghost use Rattle.model.specs.Edition.{first_edition, long_reads};
 ghost use Rattle.model.specs.Lists.{flat_map};
-ghost use Rattle.model.specs.Bytes.{overwrite};
+ghost use Rattle.model.specs.Bytes.{overwrite, part};
 ghost use Rattle.model.specs.Certificate.{step_bytes, certificate_bytes, step_width, masks_at};
 ghost use Rattle.words.specs.Packed.{unpacked};
 ghost use Rattle.certificate.specs.View.{step_size, step_in, steps_in, certificate_of, IsRead};
@@ -56,6 +56,17 @@ fn widen_steps(s: &[u8], from: usize, out: &mut [u8], at: usize, n: usize)
     }
 }
 
+// Copies what stands before a place, which is the same in both editions. By a loop: in a call for C, where two slices that are lent may lie
+// anywhere, `copy_from_slice` is a call of memmove, which the library would then need from outside.
+fn copy_front(s: &[u8], from: usize, out: &mut [u8])
+    requires { (from ≤ length s.now) × (from ≤ length out.old) }
+    ensures { out.new ≡ overwrite out.old 0 (part s.now 0 from) }
+{
+    for i in 0..from {
+        out[i] = s[i];
+    }
+}
+
 // Writes the certificate with these parts, and gives the number of its bytes.
 fn write(s: &[u8], parts: Parts, out: &mut [u8]) -> usize
     requires read { IsRead first_edition s.now parts }
@@ -65,7 +76,7 @@ fn write(s: &[u8], parts: Parts, out: &mut [u8]) -> usize
 {
     let from = parts.from;
     let n = parts.steps;
-    out[..from].copy_from_slice(&s[..from]);
+    copy_front(s, from, out);
     widen_steps(s, from, out, from, n);
     let end = from + certificate::STEP_SIZE * n;
     certificate_bytes::write_end(out, end);

@@ -7,7 +7,6 @@ use lib.ListN.{length, get_or, length-append}
 use Rattle.model.specs.Bytes.{Put}
 use Rattle.model.specs.Text.{field, number_line, numbers_line}
 use Rattle.words.proofs.Put.{put_then, put_as}
-use Rattle.controller.specs.View.{refusal_of_result}
 use Rattle.block_text.proofs.Ahead.{Ahead, ahead-start, ahead_as, ahead-next}
 use Rattle.block_text.proofs.Line.{line_from, line-next, line-last}
 use Rattle.block_text.proofs.put_line.Goals as goal
@@ -31,32 +30,22 @@ module _ (refusal : ℕ) (bytes : List ℕ) (size : length bytes ≡ 16) where
       end + length (line_from bytes i) ≤ length now
   room i h p same a = omega (arith, h, both, p.next, same, a.next, a.size)
 
--- the refusal's number
-told : {refusal n : ℕ} {before after : List ℕ} {at place : ℕ} → n ≡ refusal → Put before after at (field n) place → Put before after at (field refusal) place
-told e p = put_as (ap field e) p
-
 pub put_field-end-requires : goal.put_field-end-requires
-put_field-end-requires c =
-    omega (
-      arith,
-      c.requires,
-      both (refusal_of_result c.args.told) c.args.bytes (omega (arith, c.well_formed)),
-      ap (λ (n : ℕ). length (field n)) c.number_of.ensures,
-    )
+put_field-end-requires c = omega (arith, c.requires, both c.args.refusal c.args.bytes (omega (arith, c.well_formed)))
 
 pub loop-i-init : goal.loop-i-init
 loop-i-init c = ahead-start _ _ _
 
 pub put_byte-end-requires : goal.put_byte-end-requires
 put_byte-end-requires c =
-    let refusal = refusal_of_result c.args.told in
+    let refusal = c.args.refusal in
     let bytes = c.args.bytes in
     let i = c.loop-i.i in
     let size : length bytes ≡ 16 = omega (arith, c.well_formed) in
     let inside : i + 1 < 16 = omega (arith, c.loop-i-test.true) in
     omega (
       arith,
-      room refusal bytes size i c.requires (told c.number_of.ensures c.put_field-end.ensures) c.put_field-end.auto.out c.loop-i.invariant,
+      room refusal bytes size i c.requires c.put_field-end.ensures c.put_field-end.auto.out c.loop-i.invariant,
       ap length (more refusal bytes size i inside),
       length-append (field (get_or bytes i 0)) (line_from bytes (i + 1)),
     )
@@ -66,7 +55,7 @@ loop-i-preserved c =
     let size : length c.args.bytes ≡ 16 = omega (arith, c.well_formed) in
     let inside : c.loop-i.i + 1 < 16 = omega (arith, c.loop-i-test.true) in
     ahead-next c.put_byte-end.ensures c.put_byte-end.auto.out
-    (ahead_as (more (refusal_of_result c.args.told) c.args.bytes size c.loop-i.i inside) c.loop-i.invariant)
+    (ahead_as (more c.args.refusal c.args.bytes size c.loop-i.i inside) c.loop-i.invariant)
 
 -- what is left after the loop
 ended : (refusal : ℕ) (bytes : List ℕ) → length bytes ≡ 16 → (i : ℕ) → i ≡ 15 → line_from bytes i ≡ number_line (get_or bytes 15 0)
@@ -74,23 +63,23 @@ ended refusal bytes size i e = last refusal bytes size i (omega arith) ∙ ap (�
 
 pub put_last_byte-requires : goal.put_last_byte-requires
 put_last_byte-requires c =
-    let refusal = refusal_of_result c.args.told in
+    let refusal = c.args.refusal in
     let size : length c.args.bytes ≡ 16 = omega (arith, c.well_formed) in
     let end : c.loop-i.i ≡ 15 = omega (arith, c.loop-i-test.false, c.loop-i.auto) in
     omega (
       arith,
-      room refusal c.args.bytes size c.loop-i.i c.requires (told c.number_of.ensures c.put_field-end.ensures) c.put_field-end.auto.out c.loop-i.invariant,
+      room refusal c.args.bytes size c.loop-i.i c.requires c.put_field-end.ensures c.put_field-end.auto.out c.loop-i.invariant,
       ap length (ended refusal c.args.bytes size c.loop-i.i end),
     )
 
 pub returns : goal.returns
 returns c =
-    let refusal = refusal_of_result c.args.told in
+    let refusal = c.args.refusal in
     let bytes = c.args.bytes in
     let size : length bytes ≡ 16 = omega (arith, c.well_formed) in
     let end : c.loop-i.i ≡ 15 = omega (arith, c.loop-i-test.false, c.loop-i.auto) in
     let rest = ended refusal bytes size c.loop-i.i end in
-    let start = told c.number_of.ensures c.put_field-end.ensures in
+    let start = c.put_field-end.ensures in
     let left = room refusal bytes size c.loop-i.i c.requires start c.put_field-end.auto.out c.loop-i.invariant in
     let place : c.put_last_byte.result ≤ length c.args.out.now =
     omega (arith, c.put_last_byte.ensures.next, ap length rest, left, c.loop-i.invariant.size, c.put_field-end.auto.out) in

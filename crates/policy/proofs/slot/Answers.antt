@@ -46,6 +46,7 @@ returns-in_default c =
       rule = λ P same by. slot_idle P ts _ same by _ _ c.join-ready.result s.entered.jobs slot_cells refl s.chosen.choice _ aged.jobs;
       cells = aged.cells;
       ran = s.first;
+      below = tt;
     }
 
 pub bounds-ready-k : goal.bounds-ready-k
@@ -71,4 +72,5 @@ returns c =
       rule = λ P same by. slot-ran P ts _ same by _ _ c.join-ready.result s.entered.jobs k lt s.chosen.choice _ _ ran.jobs aged.jobs _ c.gain_in-gain.ensures;
       cells = aged.cells;
       ran = s.first;
+      below = lt;
     })

@@ -31,8 +31,8 @@ module _ (next labels : List ℕ) (state i : ℕ) (h : Reached next labels state
 pub loop-label-init : goal.loop-label-init
 loop-label-init c = record { inside = omega arith; fits = omega arith; rest = λ P e. refl }
 
-pub next-requires : goal.next-requires
-next-requires c = c.loop-label.invariant.fits
+pub next_state-requires : goal.next_state-requires
+next_state-requires c = c.loop-label.invariant.fits
 
 pub returns-in_default : goal.returns-in_default
 returns-in_default c P e = sym (step _ _ _ _ c.loop-label.invariant c.loop-label-test.true none c.in_default.ensures P e)
@@ -40,7 +40,7 @@ returns-in_default c P e = sym (step _ _ _ _ c.loop-label.invariant c.loop-label
 pub loop-label-preserved : goal.loop-label-preserved
 loop-label-preserved c =
     rw (add-one c.loop-label.label-index)
-    (next-state _ _ _ _ c.loop-label.invariant c.loop-label-test.true c.args.machine.now.states _ c.in-Some.ensures)
+    (next-state _ _ _ _ c.loop-label.invariant c.loop-label-test.true c.requires _ c.in-Some.ensures)
 
 pub returns : goal.returns
 returns c P e =

@@ -13,4 +13,4 @@ pub record Reached (next labels : List ℕ) (state i : ℕ) : Type 0 where
   pub rest : (P : Plan) → P.arcs ≡ arcs_in next → admits P labels ≡ admits_from P (drop i labels) state
 
 abbrev pub invariant-loop-label : goal.invariant-loop-label
-invariant-loop-label l = Reached l.machine.next l.labels l.state l.label-index
+invariant-loop-label l = Reached l.next l.labels l.state l.label-index

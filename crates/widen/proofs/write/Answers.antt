@@ -5,13 +5,12 @@ use Rattle.model.specs.Limits.{certificate_room}
 use Rattle.model.specs.Edition.{first_edition, long_reads}
 use Rattle.model.specs.Bytes.{overwrite}
 use Rattle.model.specs.Certificate.{step_width}
-use Rattle.std.proofs.lemmas.List.{length-take-le}
 use Rattle.words.proofs.Numbers.{AreBytes}
 use Rattle.certificate.specs.declared.Parts.{Parts}
 use Rattle.certificate.specs.View.{step_size, IsRead}
 use Rattle.certificate_bytes.specs.Pieces.{end_bytes}
 use Rattle.widen.proofs.Steps.{written}
-use Rattle.widen.proofs.Front.{read_length, widened-length, widened-room, certificate-written, copied}
+use Rattle.widen.proofs.Front.{read_length, widened-length, widened-room, certificate-written}
 use Rattle.widen.proofs.write.Goals as goal
 
 module _ (bs : List ℕ) (are_bytes : AreBytes bs) (parts : Parts) (is : IsRead first_edition bs parts) where
@@ -23,23 +22,12 @@ module _ (bs : List ℕ) (are_bytes : AreBytes bs) (parts : Parts) (is : IsRead 
   room : parts.from + step_size * parts.steps + 1 ≤ certificate_room
   room = widened-room bs are_bytes parts is
 
-pub slice_bounds-copy_from_slice-end : goal.slice_bounds-copy_from_slice-end
-slice_bounds-copy_from_slice-end c = omega (arith, room c.args.s.now (λ i. (c.type_inv.s i).fits) c.args.parts c.requires.read, c.requires.certificate_room_in_bounds)
-
-pub slice_bounds-copy_from_slice-end-2 : goal.slice_bounds-copy_from_slice-end-2
-slice_bounds-copy_from_slice-end-2 c =
-    sym (length-take-le c.args.parts.from c.args.out.now
-    (omega (arith, room c.args.s.now (λ i. (c.type_inv.s i).fits) c.args.parts c.requires.read, c.requires.certificate_room_in_bounds)))
-
-pub slice_bounds-copy_from_slice-end-3 : goal.slice_bounds-copy_from_slice-end-3
-slice_bounds-copy_from_slice-end-3 c =
-    sym (length-take-le c.args.parts.from c.args.s.now (omega (arith, inside c.args.s.now (λ i. (c.type_inv.s i).fits) c.args.parts c.requires.read)))
-
-pub copy_from_slice-requires : goal.copy_from_slice-requires
-copy_from_slice-requires c =
-    length-take-le c.args.parts.from c.args.out.now
-    (omega (arith, room c.args.s.now (λ i. (c.type_inv.s i).fits) c.args.parts c.requires.read, c.requires.certificate_room_in_bounds))
-    ∙ sym (length-take-le c.args.parts.from c.args.s.now (omega (arith, inside c.args.s.now (λ i. (c.type_inv.s i).fits) c.args.parts c.requires.read)))
+pub copy_front-requires : goal.copy_front-requires
+copy_front-requires c =
+    let small : AreBytes c.args.s.now = λ i. (c.type_inv.s i).fits in
+    let within = inside c.args.s.now small c.args.parts c.requires.read in
+    let fits = room c.args.s.now small c.args.parts c.requires.read in
+    (omega (arith, within), omega (arith, fits, c.requires.certificate_room_in_bounds))
 
 pub widen_steps-requires-clause-n_in_bounds : goal.widen_steps-requires-clause-n_in_bounds
 widen_steps-requires-clause-n_in_bounds c = omega (arith, inside c.args.s.now (λ i. (c.type_inv.s i).fits) c.args.parts c.requires.read)
@@ -68,8 +56,7 @@ returns-clause-out_after c =
     let from = c.args.parts.from in
     let n = c.args.parts.steps in
     let end : ℕ = from + step_size * n in
-    let front = copied c.args.out.now bs _ from (omega (arith, inside bs (λ i. (c.type_inv.s i).fits) c.args.parts c.requires.read)) c.copy_from_slice.ensures.after in
     c.write_end.ensures
     ∙ ap (λ m. overwrite m end end_bytes)
-    (c.widen_steps.ensures ∙ ap (λ m. overwrite m from (written first_edition long_reads bs from n)) front)
+    (c.widen_steps.ensures ∙ ap (λ m. overwrite m from (written first_edition long_reads bs from n)) c.copy_front.ensures)
     ∙ certificate-written bs (λ i. (c.type_inv.s i).fits) c.args.parts c.requires.read c.args.out.now c.requires.certificate_room_in_bounds
