@@ -1,8 +1,8 @@
 -- What a label does at a node: the policy's slot, and the outcomes noted of its choices.
 use Rattle.std.specs.Prelude as rust
-use Rattle.std.specs.Prelude.{◌≡◌, None, Some, List, map, ℕ, ◌<◌, ◌≤◌, length}
+use Rattle.std.specs.Prelude.{◌≡◌, IfSome, None, Some, List, map, ℕ, ◌<◌, ◌≤◌, length}
 use Rattle.model.specs.Lists.{up_from}
-use Rattle.policy.specs.View.{tasks_in, Slotted}
+use Rattle.policy.specs.View.{slot_cells, tasks_in, Slotted}
 use Rattle.policy.specs.declared.Rules.{Rules}
 use Rattle.graph.specs.Outcomes.{pattern_count, note_room, NotesFree, pattern_in, notes_in, noted_of, nothing_noted}
 use Rattle.node.specs.declared.Node.{Node}
@@ -29,3 +29,8 @@ pub record Reaches (r : Rules) (u : Node) (l wanted : ℕ) (before after : List 
   pub notes : notes_in after d.count ≡ noted_of (tasks_in r) l u.taken wanted nothing_noted
   pub readable : Readable after d.count
   pub only : NotesFree before after
+
+-- and `ran` of its slot is None where no job ran
+pub record ReachesBelow (r : Rules) (u : Node) (l wanted : ℕ) (before after : List ℕ) (d : Noted) : Type 0 where
+  pub reaches : Reaches r u l wanted before after d
+  pub below : IfSome d.done.ran (λ k. k < slot_cells)

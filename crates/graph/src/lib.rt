@@ -13,7 +13,7 @@ ghost use Rattle.graph.specs.Outcomes.{pattern_count, outcomes, outcome_in, list
 ghost use Rattle.graph.specs.Offers.{span_of, masks_offered, OffersFit, OffersOf, offered, Carries};
 ghost use Rattle.graph.specs.Choice.{chosen_with, choice_of, led_of, LeadFits, fits_task, all_zero};
 ghost use Rattle.graph.specs.Edge.{Stepped};
-ghost use Rattle.graph.specs.Label.{wanted_in, Readable, Reaches};
+ghost use Rattle.graph.specs.Label.{wanted_in, Readable, ReachesBelow};
 ghost use Rattle.graph.specs.declared.Chosen.{Chosen};
 ghost use Rattle.graph.specs.declared.Span.TheVariants.{Runs};
 
@@ -293,7 +293,7 @@ pub fn reach(
 ) -> Noted
     requires ruled { Ruled rules.now }
     requires node { Cells (tasks_in rules.now) cell_count node.now.cells × (node.now.taken < mask_count) }
-    ensures { Reaches rules.now node.now label (wanted_in wanted) notes.old notes.new result }
+    ensures { ReachesBelow rules.now node.now label (wanted_in wanted) notes.old notes.new result }
 {
     let done = policy::slot(rules, &node.cells, label);
     clear_notes(notes);

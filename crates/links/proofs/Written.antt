@@ -19,7 +19,7 @@ use Rattle.words.proofs.Fields.{field-read}
 use Rattle.words.proofs.Free.{only_part, overwrite-only, overwrite-within}
 use Rattle.words.proofs.Memory.{overwrite-one, overwrite-inside, overwrite_outside, overwrite_frame, overwrite_join, overwrite-more, part_skip, get_or_skip}
 use Rattle.words.proofs.Numbers.{bytes-length}
-use Rattle.links.specs.Links.{link_bytes, taken_bytes, links_at, steps_at, links_end, link_place, link_in, mark_byte, step_place, taken_in, byte_of, mark_of, marked, Puts, PutsStep, links_size, steps_size}
+use Rattle.links.specs.Links.{link_bytes, taken_bytes, links_at, steps_at, links_end, link_place, link_in, mark_byte, step_place, taken_in, byte_of, mark_of, marked, PutsMark, PutsStep, links_size, steps_size}
 use Rattle.links.specs.declared.Link.{Link}
 use Rattle.links.specs.declared.Mark.{Mark}
 use Rattle.links.specs.declared.Mark.TheVariants.{Unknown, Waiting, Tried}
@@ -123,13 +123,15 @@ module _ (l : Link) (signs : mag l.distance < 2 ^ 63) (low : l.parent < 256 ^ 2)
         }
 
     -- the link is read back, and every other as it was
-    pub puts : Puts v l m after
+    pub puts : PutsMark v l m after
     puts = record {
-      links = λ x h. put_one (link_in after) (link_in m) v l same x (λ side. other x (⊎_map (λ h. omega arith) (λ h. omega arith) side));
+      puts = record {
+        links = λ x h. put_one (link_in after) (link_in m) v l same x (λ side. other x (⊎_map (λ h. omega arith) (λ h. omega arith) side));
+        only = overwrite-only m (link_place v) (bytes_of l) fits links_at links_size (omega arith) (omega (arith, bytes_of-length l));
+      };
       marks =
           λ x h. put_one (mark_byte after) (mark_byte m) v (byte_of l.mark) same_byte x
           (λ side. other_byte x (⊎_map (λ h. omega arith) (λ h. omega arith) side));
-      only = overwrite-only m (link_place v) (bytes_of l) fits links_at links_size (omega arith) (omega (arith, bytes_of-length l));
     }
 
 -- the four writes of a link are one
@@ -152,9 +154,9 @@ link-written m at l h =
 -- so the link is put, where the last byte is that of its mark
 pub link_put : (m : List ℕ) (v : ℕ) (l : Link) → mag l.distance < 2 ^ 63 → l.parent < 256 ^ 2 → links_end ≤ length m → v < max_nodes →
     (x : List ℕ) → x ≡ overwrite (overwrite m (link_place v) (bytes 8 (complement l.distance))) (link_place v + 8) (bytes 2 l.parent) →
-    (b : ℕ) → b ≡ byte_of l.mark → Puts v l m (set (set x (link_place v + 10) l.label) (link_place v + 11) b)
+    (b : ℕ) → b ≡ byte_of l.mark → PutsMark v l m (set (set x (link_place v + 10) l.label) (link_place v + 11) b)
 link_put m v l signs low room below x led b told =
-    subst (Puts v l m)
+    subst (PutsMark v l m)
     (sym
     (ap₂ (λ y k. set (set y (link_place v + 10) l.label) (link_place v + 11) k) led told ∙ link-written m (link_place v) l (omega arith)))
     (puts l signs low m v room below)
@@ -195,14 +197,16 @@ module _ (m : List ℕ) (v : ℕ) (k : Mark) (room : links_end ≤ length m) (be
   }
 
   -- one byte is the mark
-  pub mark_written : (b : ℕ) → b ≡ byte_of k → Puts v (marked k (link_in m v)) m (set m (link_place v + 11) b)
+  pub mark_written : (b : ℕ) → b ≡ byte_of k → PutsMark v (marked k (link_in m v)) m (set m (link_place v + 11) b)
   mark_written b told =
-      subst (Puts v (marked k (link_in m v)) m) (sym (ap (set m mark_at) told ∙ overwrite-one m mark_at (byte_of k) (omega arith))) (record {
-        links = λ x h. put_one (link_in remarked) (link_in m) v (marked k (link_in m v)) same_mark x (λ side. other_mark x (⊎_map (λ h. omega arith) (λ h. omega arith) side));
+      subst (PutsMark v (marked k (link_in m v)) m) (sym (ap (set m mark_at) told ∙ overwrite-one m mark_at (byte_of k) (omega arith))) (record {
+        puts = record {
+          links = λ x h. put_one (link_in remarked) (link_in m) v (marked k (link_in m v)) same_mark x (λ side. other_mark x (⊎_map (λ h. omega arith) (λ h. omega arith) side));
+          only = overwrite-only m mark_at (byte_of k ∷ []) mark_fits links_at links_size (omega arith) (omega arith);
+        };
         marks =
             λ x h. put_one (mark_byte remarked) (mark_byte m) v (byte_of k) same_mark_byte x
             (λ side. other_mark_byte x (⊎_map (λ h. omega arith) (λ h. omega arith) side));
-        only = overwrite-only m mark_at (byte_of k ∷ []) mark_fits links_at links_size (omega arith) (omega arith);
       })
 
 -- ---- a step

@@ -101,12 +101,15 @@ first_steps memory k = map (λ i. taken_of (taken_in memory i)) (up_from 0 k)
 abbrev pub marked : Mark → Link → Link
 marked mark l = record { distance = l.distance; parent = l.parent; label = l.label; mark = mark }
 
--- the link to v is this one, its mark written as the mark's own byte; every other link is as it was, and so are the byte of its mark and every byte
--- of no link
+-- the link to v is this one, every other is as it was, and so is every byte of no link
 pub record Puts (v : ℕ) (link : Link) (before after : List ℕ) : Type 0 where
   pub links : (x : ℕ) → x < max_nodes → link_in after x ≡ cond (eqb x v) link (link_in before x)
-  pub marks : (x : ℕ) → x < max_nodes → mark_byte after x ≡ cond (eqb x v) (byte_of link.mark) (mark_byte before x)
   pub only : Only links_at links_size before after
+
+-- and its mark is written as the mark's own byte; the byte of every other mark is as it was
+pub record PutsMark (v : ℕ) (link : Link) (before after : List ℕ) : Type 0 where
+  pub puts : Puts v link before after
+  pub marks : (x : ℕ) → x < max_nodes → mark_byte after x ≡ cond (eqb x v) (byte_of link.mark) (mark_byte before x)
 
 -- the step i is this one, every other is as it was, and so is every byte of no step
 pub record PutsStep (i : ℕ) (step : Taken) (before after : List ℕ) : Type 0 where

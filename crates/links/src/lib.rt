@@ -4,7 +4,7 @@
 ghost use Rattle.std.specs.Prelude.{◌≡◌, ◌+◌, ◌≤◌, ◌<◌, length};
 ghost use Rattle.model.specs.Limits.{max_nodes, max_steps};
 ghost use Rattle.theory.specs.Search.{Before};
-ghost use Rattle.links.specs.Links.{links_end, link_in, taken_in, state_in, byte_of, mark_of, marked, Puts, PutsStep, Begins, Climbs, WayUp, Closes};
+ghost use Rattle.links.specs.Links.{links_end, link_in, taken_in, state_in, byte_of, mark_of, marked, PutsMark, PutsStep, Begins, Climbs, WayUp, Closes};
 
 use node::Node;
 
@@ -82,7 +82,7 @@ pub fn link_to(m: &[u8], v: usize) -> Link
 // Writes the link to the node v.
 pub fn put_link(m: &mut [u8], v: usize, link: Link)
     requires { (v < max_nodes) × (links_end ≤ length m.old) × (link.parent < max_nodes) }
-    ensures { Puts v link m.old m.new }
+    ensures { PutsMark v link m.old m.new }
 {
     let at = LINKS + LINK_BYTES * v;
     words::write_i64(m, at, link.distance);
@@ -94,7 +94,7 @@ pub fn put_link(m: &mut [u8], v: usize, link: Link)
 // Marks the node v.
 pub fn set_mark(m: &mut [u8], v: usize, mark: Mark)
     requires { (v < max_nodes) × (links_end ≤ length m.old) }
-    ensures { Puts v (marked mark (link_in m.old v)) m.old m.new }
+    ensures { PutsMark v (marked mark (link_in m.old v)) m.old m.new }
 {
     m[LINKS + LINK_BYTES * v + 11] = mark.byte();
 }

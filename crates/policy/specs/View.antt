@@ -210,9 +210,13 @@ ran_in ts k = cond (ltb k slot_cells) (some (record { task = task_in k; left = l
 abbrev pub done_of : Tasks → Done → model_slot.Done
 done_of ts d = record { jobs = jobs_of ts d.cells; ran = ran_in ts (cell_number d.ran); gain = d.gain }
 
--- what a slot leaves is the rule's, and cells again; a job ran in the cell of the first, and `ran` is None where there is none
+-- what a slot leaves is the rule's, and cells again; a job ran in the cell of the first
 pub record Slotted (r : Rules) (before : List ℕ) (label : ℕ) (d : Done) : Type 0 where
   pub rule : (P : model.Plan) → P.tasks ≡ tasks_in r → P.policy ≡ r.policy → done_of (tasks_in r) d ≡ model_slot.slot P (jobs_of (tasks_in r) before) label
   pub cells : Cells (tasks_in r) cell_count d.cells
   pub ran : cell_number d.ran ≡ first_cell r.policy (runnable_cells (joined_cells (tasks_in r) before label) r.hold) r.left
+
+-- and `ran` is None where no job ran
+pub record SlottedBelow (r : Rules) (before : List ℕ) (label : ℕ) (d : Done) : Type 0 where
+  pub slotted : Slotted r before label d
   pub below : IfSome d.ran (λ k. k < slot_cells)

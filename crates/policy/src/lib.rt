@@ -6,7 +6,7 @@ ghost use Rattle.std.specs.Prelude.{◌≡◌, cond, [], ◌++◌, ◌<◌, eqb,
 ghost use Rattle.model.specs.Limits.{max_tasks};
 ghost use Rattle.model.specs.Plan.{IsSound};
 ghost use Rattle.plan.specs.View.{task_view, list_of, plan_of};
-ghost use Rattle.policy.specs.View.{Tasks, StandsFor, cell_count, cell_number, slot_cells, task_at, left_in, left_table, hold_in, hold_table, Cells, Leaves, new_work, joined_cells, key_number, key_in, code_in, first_cell, held_cells, has_job, runnable_cells, worked_in, aged, tasks_in, Ruled, RulesOf, Slotted, task_number, displaced_task};
+ghost use Rattle.policy.specs.View.{Tasks, StandsFor, cell_count, cell_number, slot_cells, task_at, left_in, left_table, hold_in, hold_table, Cells, Leaves, new_work, joined_cells, key_number, key_in, code_in, first_cell, held_cells, has_job, runnable_cells, worked_in, aged, tasks_in, Ruled, RulesOf, SlottedBelow, task_number, displaced_task};
 
 use node::Node;
 use plan::{Plan, Task, TaskList};
@@ -301,7 +301,7 @@ fn gain_in(tasks: &TaskList, k: usize, work: u8) -> u16
 // One slot with a label, from the cells that the slot before left: steps 1, 3 and 4.
 pub fn slot(rules: &Rules, cells: &[u8; CELLS], label: u8) -> Done
     requires { Ruled rules.now × Cells (tasks_in rules.now) cell_count cells.now }
-    ensures { Slotted rules.now cells.now label result }
+    ensures { SlottedBelow rules.now cells.now label result }
 {
     let ready = join(&rules.tasks, cells, label);
     let pool = runnable(&ready, &rules.hold);

@@ -12,18 +12,18 @@ reach-noted-requires-clause-node c =
 
 pub best_score-ideal-requires : goal.best_score-ideal-requires
 best_score-ideal-requires c =
-    (linked-noted c.requires.linking.linked c.node_at-node.ensures c.requires.ruled c.reach-noted.ensures c.node_at-target.ensures).low
+    (linked-noted c.requires.linking.linked c.node_at-node.ensures c.requires.ruled c.reach-noted.ensures.reaches c.node_at-target.ensures).low
 
 pub overflow_sub-ideal : goal.overflow_sub-ideal
 overflow_sub-ideal c =
-    let b = linked-noted c.requires.linking.linked c.node_at-node.ensures c.requires.ruled c.reach-noted.ensures c.node_at-target.ensures in
+    let b = linked-noted c.requires.linking.linked c.node_at-node.ensures c.requires.ruled c.reach-noted.ensures.reaches c.node_at-target.ensures in
     omega (arith, c.best_score-ideal.ensures c.reach-noted.result.count, b.ideal)
 
 pub best_masks-masks-requires : goal.best_masks-masks-requires
 best_masks-masks-requires c =
     let planned = c.requires.linking.linked.planned in
     let ruled = c.requires.ruled in
-    let b = linked-noted c.requires.linking.linked c.node_at-node.ensures ruled c.reach-noted.ensures c.node_at-target.ensures in (
+    let b = linked-noted c.requires.linking.linked c.node_at-node.ensures ruled c.reach-noted.ensures.reaches c.node_at-target.ensures in (
       omega (arith, ruled.size, ap length planned.for.tasks, (sound-plan _ planned.sound).some_task),
       omega (arith, ruled.size, ruled.tasks.count),
       subst (λ (k : ℕ). k < field_base ^ c.args.rules.now.tasks.count) (sym (b.masks refl)) (packed-low planned ruled b.best),
@@ -33,7 +33,7 @@ pub returns : goal.returns
 returns c P next n e t =
     let tasks = c.args.rules.now.tasks.count in
     let ruled = c.requires.ruled in
-    let b = linked-noted t c.node_at-node.ensures ruled c.reach-noted.ensures c.node_at-target.ensures in
+    let b = linked-noted t c.node_at-node.ensures ruled c.reach-noted.ensures.reaches c.node_at-target.ensures in
     record {
       edge = b.edge;
       best = b.best;

@@ -11,6 +11,6 @@ returns-in_default c = stays _ _ _ c.requires c.in_default.ensures
 pub returns : goal.returns
 returns c =
     let m = c.args.machine.now in
-    goes _ _ _ c.requires m.ruled m.states _ c.in-Some.ensures c.slot-done.result c.slot-done.ensures _ _ _
+    goes _ _ _ c.requires m.ruled m.states _ c.in-Some.ensures c.slot-done.result c.slot-done.ensures.slotted _ _ _
     c.status_of-status.ensures c.task_number-ran.ensures
     (c.wrapping_add_u32-gain.ensures.value ∙ ap (λ (n : ℕ). (c.args.block.gain + n) % gain_limit) c.from.ensures)

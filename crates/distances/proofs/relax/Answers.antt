@@ -38,4 +38,4 @@ returns c P claim o =
     relax_moves o (sym (c.is_shorter.ensures ∙ ap₂ shorter c.link_to.ensures (to_z-of_z {w = w64} c.ranges.z)) ∙ c.if-not-is_shorter.false)
     c.in_default.ensures m'
     (subst (λ z. Puts a.v (record { distance = z; parent = a.u; label = a.label; mark = Waiting }) m m') (to_z-of_z {w = w64} c.ranges.z)
-    c.put_link.ensures)
+    c.put_link.ensures.puts)

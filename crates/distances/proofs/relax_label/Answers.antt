@@ -42,7 +42,7 @@ expanded c P t =
       ruled = a.machine.now.ruled;
       low = numbered-taken P (tasks_in r) a.m.now a.claim.n t.priced.holds t.priced.planned.sound a.source.now.number a.source.now.node c.requires.1;
       wanted = pattern_count;
-      reaches = c.reach-noted.ensures;
+      reaches = c.reach-noted.ensures.reaches;
     }
 
 pub relax_outcomes-requires : goal.relax_outcomes-requires

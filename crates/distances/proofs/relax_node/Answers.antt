@@ -71,4 +71,4 @@ returns c P s =
     let a = c.args in
     let all : c.loop-label.label ≡ 2 ^ a.machine.now.rules.tasks.count = omega arith in
     let known = waits-known (link_in a.m.now a.u).mark (waiting-is a.m.now a.u c.link_to.ensures c.waits.ensures c.if-not-waits.false) in
-    below_all (c.loop-label.invariant P s) s a.machine.now.ruled all c.requires.1 known c.set_mark.ensures
+    below_all (c.loop-label.invariant P s) s a.machine.now.ruled all c.requires.1 known c.set_mark.ensures.puts

@@ -41,7 +41,7 @@ returns c =
     let u = a.node.now in
     let ts = tasks_in m.rules in
     let P = plan_by m.rules m.next max_states in
-    let rule = c.slot-done.ensures.rule P refl refl in
+    let rule = c.slot-done.ensures.slotted.rule P refl refl in
     let lead = c.in_ok-lead.lead in
     let fits = c.in_ok-lead.ensures.fits lead refl in
     let edge : Edge = record {
@@ -50,7 +50,7 @@ returns c =
       ideal = lead.gain;
     } in
     let within : EdgeFits ts edge = record {
-      cells = c.slot-done.ensures.cells;
+      cells = c.slot-done.ensures.slotted.cells;
       state = m.states.to u.state a.label c.in_ok-state.state (sym c.in_ok-state.ensures);
       taken = omega (arith, fits.pattern);
       kept =

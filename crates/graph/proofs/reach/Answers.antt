@@ -21,8 +21,11 @@ returns c =
     let notes : notes_in after noted.result ≡ noted_of ts a.label taken w nothing_noted =
     noted.ensures.notes ∙ ap (λ (n : Notes). foldl (note w) n (outcomes ts a.label taken)) cleared.ensures.notes in
     record {
-      slot = c.slot-done.ensures;
-      notes = notes;
-      readable = label-readable ts c.requires.ruled.tasks a.label taken w c.requires.node.1 after noted.result notes noted.ensures.room;
-      only = only_trans cleared.ensures.only (keeps_free noted.ensures.keeps);
+      reaches = record {
+        slot = c.slot-done.ensures.slotted;
+        notes = notes;
+        readable = label-readable ts c.requires.ruled.tasks a.label taken w c.requires.node.1 after noted.result notes noted.ensures.room;
+        only = only_trans cleared.ensures.only (keeps_free noted.ensures.keeps);
+      };
+      below = c.slot-done.ensures.below;
     }

@@ -4,4 +4,4 @@ use Rattle.links.proofs.Cleared.{begins}
 use Rattle.links.proofs.begin.Goals as goal
 
 pub returns : goal.returns
-returns c = begins _ c.requires _ _ c.fill.ensures c.put_link.ensures
+returns c = begins _ c.requires _ _ c.fill.ensures c.put_link.ensures.puts

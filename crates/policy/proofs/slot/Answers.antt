@@ -6,7 +6,7 @@ use mathlib.Core.List.{List, ◌++◌}
 use Prim.Native.Nat.{ℕ, ◌<◌}
 use native.Mathlib.Omega.{arith}
 use Rattle.model.specs.Slot.{key, new_jobs}
-use Rattle.policy.specs.View.{slot_cells, jobs_of, tasks_in, Leaves, Slotted, Ruled, Cells, cell_count, joined_cells, first_cell, runnable_cells}
+use Rattle.policy.specs.View.{slot_cells, jobs_of, tasks_in, Leaves, SlottedBelow, Ruled, Cells, cell_count, joined_cells, first_cell, runnable_cells}
 use Rattle.policy.specs.declared.Rules.{Rules}
 use Rattle.policy.proofs.Cells.{worked-leaves, aged-leaves}
 use Rattle.policy.proofs.NewJobs.{joined-leaves}
@@ -43,9 +43,11 @@ returns-in_default c =
     let s = steps r c.args.cells.now c.args.label c.requires c.join-ready.ensures c.runnable-pool.ensures c.in_default.ensures.cell in
     let aged = aged-leaves ts s.ruled.tasks _ s.ruled.left c.join-ready.result s.entered.cells c.age.ensures in
     record {
-      rule = λ P same by. slot_idle P ts _ same by _ _ c.join-ready.result s.entered.jobs slot_cells refl s.chosen.choice _ aged.jobs;
-      cells = aged.cells;
-      ran = s.first;
+      slotted = record {
+        rule = λ P same by. slot_idle P ts _ same by _ _ c.join-ready.result s.entered.jobs slot_cells refl s.chosen.choice _ aged.jobs;
+        cells = aged.cells;
+        ran = s.first;
+      };
       below = tt;
     }
 
@@ -67,10 +69,12 @@ returns c =
     let s = steps r c.args.cells.now c.args.label c.requires c.join-ready.ensures c.runnable-pool.ensures (c.from-k.ensures ∙ c.in-Some.ensures.cell) in
     let ran = worked-leaves ts c.join-ready.result k s.entered.cells lt (s.chosen.work lt) c.run-after.ensures in
     let aged = aged-leaves ts s.ruled.tasks _ s.ruled.left c.run-after.result ran.cells c.age-2.ensures in
-    subst (λ (n : ℕ). Slotted r c.args.cells.now c.args.label (record { cells = c.age-2.result; ran = Some n; gain = c.gain_in-gain.result })) c.from-k.ensures
+    subst (λ (n : ℕ). SlottedBelow r c.args.cells.now c.args.label (record { cells = c.age-2.result; ran = Some n; gain = c.gain_in-gain.result })) c.from-k.ensures
     (record {
-      rule = λ P same by. slot-ran P ts _ same by _ _ c.join-ready.result s.entered.jobs k lt s.chosen.choice _ _ ran.jobs aged.jobs _ c.gain_in-gain.ensures;
-      cells = aged.cells;
-      ran = s.first;
+      slotted = record {
+        rule = λ P same by. slot-ran P ts _ same by _ _ c.join-ready.result s.entered.jobs k lt s.chosen.choice _ _ ran.jobs aged.jobs _ c.gain_in-gain.ensures;
+        cells = aged.cells;
+        ran = s.first;
+      };
       below = lt;
     })

@@ -52,7 +52,7 @@ outcomes_hold-requires c =
     let z = potential_at g.certificate.potentials a.from.number in
     let low = numbered-taken g.plan (tasks_in a.machine.now.rules) a.m.now a.claim.n g.test.holds g.test.planned.sound a.from.number a.from.node c.requires.1 in
     label_charged g.test c.requires.1 a.from.label c.in-Some.state (sym (ap option_of c.in-Some.is) ∙ c.next.ensures) a.machine.now.ruled low pattern_count
-    a.notes.now c.reach-noted.new.notes c.reach-noted.result c.reach-noted.ensures _
+    a.notes.now c.reach-noted.new.notes c.reach-noted.result c.reach-noted.ensures.reaches _
     (high-is z q c.from.result (record { sfits = c.potential.type_inv }) (record { sfits = c.times-weight.type_inv })
     (c.potential.ensures g.certificate g.test.read) c.times-weight.ensures g.test.fits_q (omega (arith, c.from.type_inv)) (potential_small g.test c.requires.1)
     ∙ ap (λ (n : ℕ). z +ℤ pos (q * n)) c.from.ensures)
@@ -66,7 +66,7 @@ returns-clause-value c P d t =
     let low = numbered-taken P (tasks_in a.machine.now.rules) a.m.now a.claim.n t.holds t.planned.sound a.from.number a.from.node c.requires.1 in
     c.outcomes_hold.ensures d t.read
     ∙ label-tested t c.requires.1 a.from.label c.in-Some.state (sym (ap option_of c.in-Some.is) ∙ c.next.ensures) a.machine.now.ruled low pattern_count
-    a.notes.now c.reach-noted.new.notes c.reach-noted.result c.reach-noted.ensures _
+    a.notes.now c.reach-noted.new.notes c.reach-noted.result c.reach-noted.ensures.reaches _
     (high-is z q c.from.result (record { sfits = c.potential.type_inv }) (record { sfits = c.times-weight.type_inv })
     (c.potential.ensures d t.read) c.times-weight.ensures t.fits_q (omega (arith, c.from.type_inv)) (potential_small t c.requires.1)
     ∙ ap (λ (n : ℕ). z +ℤ pos (q * n)) c.from.ensures)

@@ -48,7 +48,7 @@ loop-slot-init c = reached-start _ _ _ _ (c.no_jobs-cells.ensures _)
 pub loop-slot-preserved : goal.loop-slot-preserved
 loop-slot-preserved c =
     rw (add-one c.loop-slot.slot)
-    (reached-next _ _ _ _ _ _ _ c.args.machine.now.ruled c.requires c.loop-slot.invariant c.loop-slot-test.true c.slot-done.result c.slot-done.ensures
+    (reached-next _ _ _ _ _ _ _ c.args.machine.now.ruled c.requires c.loop-slot.invariant c.loop-slot-test.true c.slot-done.result c.slot-done.ensures.slotted
     _ (λ i. record { ran = c.task_number-task.ensures i; gain = c.slot-done.result.gain; cut = c.displaced-cut.ensures i }) _ c.put_row.ensures c.put_row.auto.out)
 
 pub returns : goal.returns
